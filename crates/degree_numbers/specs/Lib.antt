@@ -1,0 +1,4 @@
+pub mod Multi
+pub mod Degree
+pub mod Name
+pub mod Types

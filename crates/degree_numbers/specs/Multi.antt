@@ -1,0 +1,31 @@
+-- Multiindices as lists of numbers, by direction.
+--   plus_of m l == the sum, entry by entry
+--   minus_of m l == the difference, entry by entry, stopping at 0
+--   IsAtMost m l == no entry of m is greater than that of l
+--   multi_order m l == lexicographic order from the first entry
+--   scaled_size s m == the scaled size |m|_s: the sum of s_i * m_i
+use Rattle.std.specs.Prelude.{ℕ, ◌+◌, ◌*◌, ◌-◌, ◌≤◌, ◌<◌, List, [], ◌∷◌, slice_index}
+use Rattle.std.specs.Ordering.{nat_cmp}
+use Rattle.std.specs.Cmp.Lexicographic.{slice_cmp}
+use Rattle.std.specs.declared.cmp.Ordering.{Ordering}
+
+abbrev pub plus_of : List ℕ → List ℕ → List ℕ
+plus_of [] ys = ys
+plus_of (x ∷ xs) [] = x ∷ xs
+plus_of (x ∷ xs) (y ∷ ys) = (x + y) ∷ plus_of xs ys
+
+abbrev pub minus_of : List ℕ → List ℕ → List ℕ
+minus_of [] ys = []
+minus_of (x ∷ xs) [] = x ∷ xs
+minus_of (x ∷ xs) (y ∷ ys) = (x - y) ∷ minus_of xs ys
+
+abbrev pub IsAtMost : List ℕ → List ℕ → Type 0
+IsAtMost xs ys = (k : ℕ) → k < 5 → slice_index xs k ≤ slice_index ys k
+
+abbrev pub multi_order : List ℕ → List ℕ → Ordering
+multi_order = slice_cmp nat_cmp
+
+abbrev pub scaled_size : List ℕ → List ℕ → ℕ
+scaled_size [] ms = 0
+scaled_size (s ∷ ss) [] = 0
+scaled_size (s ∷ ss) (m ∷ ms) = s * m + scaled_size ss ms

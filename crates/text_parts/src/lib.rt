@@ -1,0 +1,6 @@
+//! What the texts of degrees, right sides, trees and polynomials have in common: numbers, marks and the spaces between them.
+#![tactic(auto)]
+
+mod reading;
+
+pub use reading::{is_trimmed, mark_of, nonzero_behind, nonzero_of, number_of, skip};
