@@ -1,0 +1,2 @@
+pub mod EdgeTypes
+pub mod Accepted
