@@ -1,0 +1,36 @@
+-- Members of joined, mapped and flattened lists.
+use Rattle.std.proofs.Common.{◌≡◌, List, [], ◌∷◌, ◌++◌, map, refl, ap, sym, subst, inl, inr, ◌⊎◌}
+use Rattle.std.specs.List.{flat_map}
+use Rattle.ordered_lists.specs.Members.{IsIn}
+
+pub in_append_left : {X : Type 0} (n : X) (xs ys : List X) → IsIn n xs → IsIn n (xs ++ ys)
+in_append_left n [] ys h = absurd h
+in_append_left n (x ∷ xs) ys h = elim h [ inl e ↦ inl e | inr r ↦ inr (in_append_left n xs ys r) ]
+
+pub in_append_right : {X : Type 0} (n : X) (xs ys : List X) → IsIn n ys → IsIn n (xs ++ ys)
+in_append_right n [] ys h = h
+in_append_right n (x ∷ xs) ys h = inr (in_append_right n xs ys h)
+
+pub from_append : {X : Type 0} (n : X) (xs ys : List X) → IsIn n (xs ++ ys) → IsIn n xs ⊎ IsIn n ys
+from_append n [] ys h = inr h
+from_append n (x ∷ xs) ys h =
+    elim h [ inl e ↦ inl (inl e) | inr r ↦ elim (from_append n xs ys r) [ inl a ↦ inl (inr a) | inr b ↦ inr b ] ]
+
+pub in_map : {X Y : Type 0} (f : X → Y) (n : X) (xs : List X) → IsIn n xs → IsIn (f n) (map f xs)
+in_map f n [] h = absurd h
+in_map f n (x ∷ xs) h = elim h [ inl e ↦ inl (ap f e) | inr r ↦ inr (in_map f n xs r) ]
+
+pub from_map : {X Y : Type 0} (f : X → Y) (m : Y) (xs : List X) → IsIn m (map f xs) → (n : X) × IsIn n xs × (f n ≡ m)
+from_map f m [] h = absurd h
+from_map f m (x ∷ xs) h =
+    elim h [ inl e ↦ (x, inl refl, e) | inr r ↦ let s = from_map f m xs r in (s.0, inr s.1, s.2) ]
+
+pub in_flat_map : {X Y : Type 0} (f : X → List Y) (n : Y) (x : X) (xs : List X) → IsIn x xs → IsIn n (f x) → IsIn n (flat_map f xs)
+in_flat_map f n x [] h k = absurd h
+in_flat_map f n x (y ∷ ys) h k =
+    elim h [ inl e ↦ in_append_left n (f y) (flat_map f ys) (subst (λ z. IsIn n (f z)) (sym e) k) | inr r ↦ in_append_right n (f y) (flat_map f ys) (in_flat_map f n x ys r k) ]
+
+pub from_flat_map : {X Y : Type 0} (f : X → List Y) (n : Y) (xs : List X) → IsIn n (flat_map f xs) → (x : X) × IsIn x xs × IsIn n (f x)
+from_flat_map f n [] h = absurd h
+from_flat_map f n (x ∷ xs) h =
+    elim (from_append n (f x) (flat_map f xs) h) [ inl a ↦ (x, inl refl, a) | inr b ↦ let s = from_flat_map f n xs b in (s.0, inr s.1, s.2) ]
