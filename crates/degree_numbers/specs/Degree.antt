@@ -2,7 +2,8 @@
 --   degree_plus d e == the sum, part by part
 --   degree_zero == 0
 --   degree_order d e == by the standard part, then by the coefficient of k
-use Rattle.std.specs.Prelude.{pos, ◌+ℤ◌}
+--   IsWithin z n == the absolute value of z is at most n
+use Rattle.std.specs.Prelude.{ℕ, ℤ, pos, neg_ℤ, ◌+ℤ◌, ◌≤ℤ◌}
 use Rattle.std.specs.Ordering.{int_cmp, on, then_cmp}
 use Rattle.std.specs.declared.cmp.Ordering.{Ordering}
 use Rattle.degree_numbers.specs.declared.degree.Degree.{Degree}
@@ -15,3 +16,7 @@ degree_zero = record { a = pos 0; b = pos 0 }
 
 abbrev pub degree_order : Degree → Degree → Ordering
 degree_order = then_cmp (on (λ d. d.a) int_cmp) (on (λ d. d.b) int_cmp)
+
+pub record IsWithin (z : ℤ) (n : ℕ) : Type 0 where
+  pub low : neg_ℤ (pos n) ≤ℤ z
+  pub high : z ≤ℤ pos n
