@@ -4,7 +4,7 @@ use Rattle.std.specs.Ordering.{ordering_reverse, is_eq}
 use Rattle.std.specs.Cmp.{IsTotalOrder}
 use Rattle.std.specs.List.{AllByRecursion}
 use Rattle.std.specs.List.Sorted.{IsSorted}
-use Rattle.ordered_lists.specs.Members.{IsExact}
+use Rattle.std.specs.FinMap.{IsAntisymmetric}
 use Rattle.ordered_lists.specs.Subs.{IsSubMultiset, count_of}
 use Rattle.ordered_lists.proofs.Unique.{own, absent, sorted-next, sorted-rest, less-through}
 
@@ -73,7 +73,7 @@ module _ {X : Type 0} (R : X → X → Ordering) (o : IsTotalOrder R) where
         | inr left ↦ sub_sorted (n ∷ ns) xs left (sorted-rest R o x xs s)
       ]
 
-module _ {X : Type 0} (R : X → X → Ordering) (o : IsTotalOrder R) (exact : IsExact R) where
+module _ {X : Type 0} (R : X → X → Ordering) (o : IsTotalOrder R) (exact : IsAntisymmetric R) where
   -- without an element that stands in neither more often, or that the smaller one has not
   later : (z n x : X) (ns xs : List X) → R n x ≡ Greater → IsSorted R (n ∷ ns) → count_of R z (n ∷ ns) ≤ count_of R z (x ∷ xs) → count_of R z (n ∷ ns) ≤ count_of R z xs
   later z n x ns xs e h le =

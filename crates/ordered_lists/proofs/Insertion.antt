@@ -5,10 +5,11 @@ use Rattle.std.specs.declared.cmp.Ordering.TheVariants.{Less, Equal, Greater}
 use Rattle.std.specs.List.{AllByRecursion}
 use Rattle.std.specs.List.Sorted.{IsStrictlySortedBy}
 use Rattle.std.specs.Cmp.{IsTotalOrder}
+use Rattle.std.specs.FinMap.{IsAntisymmetric}
 use Rattle.std.specs.BTreeSet.{insert_key}
 use Rattle.std.specs.Ordering.{match_ordering, ordering_reverse}
 use Rattle.std.proofs.lemmas.Cmp.{tied_itself}
-use Rattle.ordered_lists.specs.Members.{IsIn, IsExact, insert_all}
+use Rattle.ordered_lists.specs.Members.{IsIn, insert_all}
 
 pub from_insert_key : {K : Type 0} (c : K → K → Ordering) (ks : List K) (k n : K) → IsIn n (insert_key c ks k) → IsIn n ks ⊎ (k ≡ n)
 from_insert_key c [] k n h = elim h [ inl e ↦ inr e | inr none ↦ absurd none ]
@@ -28,7 +29,7 @@ insert_key_old c (x ∷ xs) k n h =
       | Greater ↦ elim h [ inl e ↦ inl e | inr r ↦ inr (insert_key_old c xs k n r) ]
     ]
 
-pub insert_key_new : {K : Type 0} (c : K → K → Ordering) → IsExact c → (ks : List K) (k : K) → IsIn k (insert_key c ks k)
+pub insert_key_new : {K : Type 0} (c : K → K → Ordering) → IsAntisymmetric c → (ks : List K) (k : K) → IsIn k (insert_key c ks k)
 insert_key_new c exact [] k = inl refl
 insert_key_new {K} c exact (x ∷ xs) k =
     (elim (c k x) as (λ o. c k x ≡ o → IsIn k (match_ordering o (k ∷ x ∷ xs) (x ∷ xs) (x ∷ insert_key c xs k))) [
@@ -71,7 +72,7 @@ pub insert_all_old : {K : Type 0} (c : K → K → Ordering) (ks ns : List K) (n
 insert_all_old c ks [] n h = h
 insert_all_old c ks (x ∷ xs) n h = insert_all_old c (insert_key c ks x) xs n (insert_key_old c ks x n h)
 
-pub insert_all_new : {K : Type 0} (c : K → K → Ordering) → IsExact c → (ks ns : List K) (n : K) → IsIn n ns → IsIn n (insert_all c ks ns)
+pub insert_all_new : {K : Type 0} (c : K → K → Ordering) → IsAntisymmetric c → (ks ns : List K) (n : K) → IsIn n ns → IsIn n (insert_all c ks ns)
 insert_all_new c exact ks [] n h = absurd h
 insert_all_new c exact ks (x ∷ xs) n h =
     elim h [ inl e ↦ insert_all_old c (insert_key c ks x) xs n (subst (λ y. IsIn y (insert_key c ks x)) e (insert_key_new c exact ks x)) | inr r ↦ insert_all_new c exact (insert_key c ks x) xs n r ]
@@ -103,7 +104,7 @@ rest_in {K} c o x y n xs ys e a h g =
       | inr r ↦ r
     ]
 
-pub strictly_sorted_unique : {K : Type 0} (c : K → K → Ordering) → IsTotalOrder c → IsExact c → (xs ys : List K) → IsStrictlySortedBy c xs → IsStrictlySortedBy c ys
+pub strictly_sorted_unique : {K : Type 0} (c : K → K → Ordering) → IsTotalOrder c → IsAntisymmetric c → (xs ys : List K) → IsStrictlySortedBy c xs → IsStrictlySortedBy c ys
     → ((n : K) → IsIn n xs → IsIn n ys) → ((n : K) → IsIn n ys → IsIn n xs) → xs ≡ ys
 unfolding IsStrictlySortedBy
 strictly_sorted_unique c o exact [] [] s r f g = refl

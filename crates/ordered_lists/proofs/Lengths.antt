@@ -1,10 +1,11 @@
 -- How long sorted lists of distinct members are.
 use Rattle.std.proofs.Common.{◌≡◌, ◌≤◌, List, [], ◌∷◌, length, refl, ap, ◌∙◌, inl, inr, subst, arith, Ordering, Less, Equal, Greater}
 use Rattle.std.specs.Cmp.{IsTotalOrder}
+use Rattle.std.specs.FinMap.{IsAntisymmetric}
 use Rattle.std.specs.BTreeSet.{insert_key}
 use Rattle.std.specs.List.Sorted.{IsStrictlySortedBy}
 use Rattle.std.specs.Ordering.{match_ordering, ordering_reverse}
-use Rattle.ordered_lists.specs.Members.{IsIn, IsExact, insert_all}
+use Rattle.ordered_lists.specs.Members.{IsIn, insert_all}
 use Rattle.ordered_lists.proofs.Insertion.{missing, rest_in}
 
 pub length-insert_key : {K : Type 0} (c : K → K → Ordering) (ks : List K) (k : K) → length ks ≤ length (insert_key c ks k)
@@ -30,7 +31,7 @@ later {K} c o x y n xs ys e s h k =
     ]
 
 -- the members of one list are no more than those of another that has them
-pub length-within : {K : Type 0} (c : K → K → Ordering) → IsTotalOrder c → IsExact c → (xs ys : List K) → IsStrictlySortedBy c xs → IsStrictlySortedBy c ys → ((n : K) → IsIn n xs → IsIn n ys) → length xs ≤ length ys
+pub length-within : {K : Type 0} (c : K → K → Ordering) → IsTotalOrder c → IsAntisymmetric c → (xs ys : List K) → IsStrictlySortedBy c xs → IsStrictlySortedBy c ys → ((n : K) → IsIn n xs → IsIn n ys) → length xs ≤ length ys
 unfolding IsStrictlySortedBy
 length-within c o exact [] ys s r f = omega arith
 length-within c o exact (x ∷ xs) [] s r f = absurd (f x (inl refl))

@@ -5,7 +5,7 @@ use Rattle.std.specs.Cmp.{IsTotalOrder}
 use Rattle.std.specs.List.{sum_by}
 use Rattle.std.specs.List.Sorted.{IsSorted, IsPermutation}
 use Rattle.std.proofs.lemmas.List.Sums.{sum_by-cons}
-use Rattle.ordered_lists.specs.Members.{IsExact}
+use Rattle.std.specs.FinMap.{IsAntisymmetric}
 use Rattle.ordered_lists.specs.Subs.{count_of}
 use Rattle.std.proofs.lemmas.List.Sorted.{sum_by-IsPermutation}
 
@@ -44,7 +44,7 @@ module _ {X : Type 0} (R : X → X → Ordering) (o : IsTotalOrder R) where
   pub own : (x : X) → one x x ≡ 1
   own x = ap (λ (a : Ordering). cond (is_eq a) 1 0) (own_equal (R x x) (o.antisymm x x))
 
-module _ {X : Type 0} (R : X → X → Ordering) (o : IsTotalOrder R) (exact : IsExact R) where
+module _ {X : Type 0} (R : X → X → Ordering) (o : IsTotalOrder R) (exact : IsAntisymmetric R) where
   unique-at : (x y : X) (xs ys : List X) (a : Ordering) → R x y ≡ a → IsSorted R (x ∷ xs) → IsSorted R (y ∷ ys) → ((z : X) → count_of R z (x ∷ xs) ≡ count_of R z (y ∷ ys)) → x ≡ y
   unique-at x y xs ys Less e h k same = absurd (omega (arith, own R o x, same x, absent R o x y ys e k))
   unique-at x y xs ys Equal e h k same = exact x y e
