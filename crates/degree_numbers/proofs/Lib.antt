@@ -1,2 +1,4 @@
+pub mod Multis
 pub mod Names
+pub mod Orders
 pub mod TypeBounds

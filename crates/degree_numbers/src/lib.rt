@@ -2,11 +2,13 @@
 #![tactic(auto)]
 
 mod degree;
+mod laws;
 mod multi;
 mod name;
 mod types;
 
 pub use degree::{Degree, Units};
+pub use laws::{degrees_are_ordered, multis_are_ordered};
 pub use multi::Multi;
 pub use name::Name;
 pub use types::{Kind, TypeEntry, TypeId, Types};
