@@ -1,0 +1,4 @@
+pub mod KeyedLaws
+pub mod MultinomialLaws
+pub mod SaturatingLaws
+pub mod SumLaws

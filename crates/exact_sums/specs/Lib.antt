@@ -1,0 +1,4 @@
+pub mod Binomials
+pub mod Keyed
+pub mod Saturating
+pub mod Sums
