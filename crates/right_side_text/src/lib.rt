@@ -1,0 +1,12 @@
+//! The right sides of equations, as they are written.
+#![tactic(auto)]
+
+mod denominator;
+mod fault;
+mod reading;
+mod written;
+
+pub use denominator::Denominator;
+pub use fault::ReadError;
+pub use reading::read_right_side;
+pub use written::{WrittenFactor, WrittenTerm};
