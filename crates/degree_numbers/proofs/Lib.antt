@@ -1,4 +1,5 @@
 pub mod Multis
 pub mod Names
 pub mod Orders
+pub mod ScaledSizes
 pub mod TypeBounds

@@ -5,6 +5,7 @@ mod degree;
 mod laws;
 mod multi;
 mod name;
+mod scaled;
 mod types;
 
 pub use degree::{Degree, Units};

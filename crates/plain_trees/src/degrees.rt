@@ -1,0 +1,110 @@
+// Degrees of trees, and planted trees.
+ghost use Rattle.std.specs.Prelude.{◌≡◌, ◌↔◌, ◌<◌, ◌≤◌, ◌==◌, ℕ, true, length, sum};
+ghost use Rattle.std.specs.List.{list_all};
+ghost use Rattle.degree_numbers.specs.declared.types.Types.{Types};
+ghost use Rattle.degree_numbers.specs.Types.{AreTypes, type_degree};
+ghost use Rattle.plain_trees.specs.Degree.{degree_of, derivative_degree_of, edge_degree_of, node_degree_of, planted, is_kernel, IsPlanted, HasTypes};
+ghost use Rattle.plain_trees.specs.Canon.{IsSame};
+ghost use Rattle.plain_trees.specs.Plain.{Plain, IsSmall};
+ghost use Rattle.plain_trees.specs.View.{plain};
+
+use crate::tree::Tree;
+use degree_numbers::{Degree, Kind, Multi, TypeId, Types};
+
+/// The degree of a type.
+#[tactic(auto, using(crate::proofs::DegreeBounds::type_degree_at))]
+fn type_degree_of(types: &Types, kind: TypeId) -> Degree
+    requires { kind.0 < length types.now.list }
+    ensures { result ≡ type_degree types.now kind.0 }
+{
+    types.list.as_slice()[kind.0 as usize].degree
+}
+
+/// What the derivative decoration of an edge adds to its degree.
+#[tactic(auto, using(crate::proofs::DegreeBounds::scaling_most))]
+fn derivative_degree(types: &Types, p: &Multi) -> Degree
+    requires types { AreTypes types.now }
+    requires small { sum p.now.entries ≤ 4096 }
+    ensures { result ≡ derivative_degree_of types.now p.now.entries }
+{
+    Degree {
+        a: -(p.scaled_size(&types.scaling) as i64),
+        b: 0,
+    }
+}
+
+/// The degree of an edge without the tree above it: that of its type less the scaled size of its derivative decoration.
+#[tactic(auto, using(crate::proofs::DegreeBounds::edge_a_fits, crate::proofs::DegreeBounds::edge_b_fits))]
+pub fn edge_degree(types: &Types, kind: TypeId, p: &Multi) -> Degree
+    requires types { AreTypes types.now }
+    requires known { kind.0 < length types.now.list }
+    requires small { sum p.now.entries ≤ 4096 }
+    ensures { result ≡ edge_degree_of types.now kind.0 p.now.entries }
+{
+    type_degree_of(types, kind).plus(&derivative_degree(types, p))
+}
+
+/// The degree of a node: the scaled size of its decoration.
+#[tactic(auto, using(crate::proofs::DegreeBounds::scaling_most))]
+pub fn node_degree(types: &Types, n: &Multi) -> Degree
+    requires types { AreTypes types.now }
+    requires small { sum n.now.entries ≤ 4096 }
+    ensures { result ≡ node_degree_of types.now n.now.entries }
+{
+    Degree {
+        a: n.scaled_size(&types.scaling) as i64,
+        b: 0,
+    }
+}
+
+/// The degree of a tree (Bruned, Hairer, Zambotti): the sum of |type| - |p|_s over its edges and of |n|_s over its nodes.
+pub fn degree(types: &Types, t: &Tree) -> Degree
+    requires types { AreTypes types.now }
+    requires tree { HasTypes types.now (plain t.now) }
+    requires small { IsSmall (plain t.now) }
+    ensures { result ≡ degree_of types.now (plain t.now) }
+{
+    let mut sum = Degree { a: 0, b: 0 };
+    for e in t.edges.as_slice() {
+        sum = sum.plus(&edge_degree(types, e.kind, &e.p).plus(&degree(types, &e.child)));
+    }
+    sum.plus(&node_degree(types, &t.n))
+}
+
+/// Whether all entries are 0.
+fn is_zero(m: &Multi) -> bool
+    ensures { result ≡ list_all (λ x. x == 0) m.now.entries }
+{
+    m.entries.iter().all(|x| *x == 0)
+}
+
+/// Whether this is the type of a kernel.
+fn is_kernel_type(types: &Types, kind: TypeId) -> bool
+    ensures { result ≡ is_kernel types.now kind.0 }
+{
+    match types.list.get(kind.0 as usize) {
+        Some(entry) => entry.kind == Kind::Kernel,
+        None => false,
+    }
+}
+
+/// Whether a tree is planted: its root has decoration 0 and exactly one edge, of kernel type.
+#[tactic(auto, using(crate::proofs::PlantedTrees::planted_many))]
+pub fn is_planted(types: &Types, t: &Tree) -> bool
+    ensures { result ≡ planted types.now (plain t.now) }
+{
+    match t.edges.as_slice() {
+        [e] => is_kernel_type(types, e.kind) && is_zero(&t.n),
+        _ => false,
+    }
+}
+
+/// What does not depend on the order in which edges are drawn: the degree, whether a tree is planted, and whether it is a tree over these types. And the test of
+/// planted trees answers yes exactly where there is one edge at the root, of kernel type, and the root's decoration is 0.
+pub fn degree_laws()
+    ensures degree { (ty : Types) (s t : Plain) → IsSame s t → degree_of ty s ≡ degree_of ty t }
+    ensures planted { (ty : Types) (s t : Plain) → IsSame s t → planted ty s ≡ planted ty t }
+    ensures types { (ty : Types) (s t : Plain) → IsSame s t → HasTypes ty s → HasTypes ty t }
+    ensures test { (ty : Types) (t : Plain) → HasTypes ty t → ((planted ty t ≡ true) ↔ IsPlanted ty t) }
+{
+}
