@@ -8,7 +8,7 @@ use Rattle.std.proofs.lemmas.Map.Lookups.{exact_unsigned, exact_bytes}
 use Rattle.plain_trees.specs.Plain.{Plain, bare, graft, tree_order}
 use Rattle.plain_trees.proofs.OrderLaws.{tree_order_total, tree_exact, tree_order_self, both_equal}
 use Rattle.plain_trees.specs.Canon.{Planted, planted_order, with_edge, canon, IsAtMostFirst, IsCanonical, IsSame, exchanged, on_both, unchanged, chained}
-use Rattle.plain_trees.proofs.Above.{asymmetric, above, neither}
+use Rattle.ordered_lists.proofs.Above.{asymmetric, above, neither}
 
 pub planted_total : IsTotalOrder planted_order
 planted_total = then_total (on_total (λ (e : Planted). e.kind) nat_cmp_total) (then_total (on_total (λ (e : Planted). e.p) nat_list_cmp_total) (on_total (λ (e : Planted). e.child) tree_order_total))

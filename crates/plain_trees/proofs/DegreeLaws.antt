@@ -1,5 +1,5 @@
 -- What does not depend on the order in which the edges of a tree are drawn.
-use Rattle.std.proofs.Common.{◌≡◌, ℕ, zero, suc, ◌+ℤ◌, ◌==◌, ◌&&◌, Bool, true, false, List, [], ◌∷◌, length, refl, sym, ap, ◌∙◌, subst, arith, Some, None}
+use Rattle.std.proofs.Common.{◌≡◌, ℕ, zero, suc, ◌==◌, ◌&&◌, Bool, true, false, List, [], ◌∷◌, length, refl, sym, ap, ◌∙◌, subst, arith, Some, None}
 use Rattle.std.specs.List.{list_all}
 use Rattle.std.specs.declared.option.Option.{Option}
 use Rattle.std.proofs.lemmas.Bool.Decides.{nat_tests}
@@ -12,7 +12,7 @@ use Rattle.degree_numbers.specs.Degree.{degree_plus}
 use Rattle.degree_numbers.specs.Types.{kind_of}
 use Rattle.plain_trees.specs.Plain.{Plain, bare, graft, root_of}
 use Rattle.plain_trees.specs.Canon.{canon, IsSame, exchanged, on_both, unchanged, chained}
-use Rattle.plain_trees.specs.Degree.{degree_of, edge_degree_of, empty_tree, is_empty_tree, is_kernel, is_kernel_kind, planted, IsPlanted, IsMultiIndex, IsEdge, HasTypes}
+use Rattle.plain_trees.specs.Degree.{degree_of, edge_degree_of, empty_tree, is_empty_tree, is_kernel, is_kernel_kind, planted, IsPlanted, IsMultiIndex, HasTypes}
 use Rattle.plain_trees.proofs.CanonLaws.{canon_same}
 
 abbrev made : (a b : Degree) → Degree

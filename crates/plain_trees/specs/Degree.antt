@@ -21,7 +21,7 @@ use Rattle.degree_numbers.specs.declared.types.Kind.{Kind}
 use Rattle.degree_numbers.specs.declared.types.Kind.TheVariants.{Noise, Kernel}
 use Rattle.degree_numbers.specs.Degree.{degree_plus}
 use Rattle.degree_numbers.specs.Multi.{scaled_size}
-use Rattle.degree_numbers.specs.Types.{type_degree, kind_of, is_noise}
+use Rattle.degree_numbers.specs.Types.{type_degree, kind_of}
 use Rattle.plain_trees.specs.Plain.{Plain, bare, graft}
 
 abbrev pub derivative_degree_of : Types → List ℕ → Degree

@@ -106,5 +106,4 @@ pub fn degree_laws()
     ensures planted { (ty : Types) (s t : Plain) → IsSame s t → planted ty s ≡ planted ty t }
     ensures types { (ty : Types) (s t : Plain) → IsSame s t → HasTypes ty s → HasTypes ty t }
     ensures test { (ty : Types) (t : Plain) → HasTypes ty t → ((planted ty t ≡ true) ↔ IsPlanted ty t) }
-{
-}
+{}

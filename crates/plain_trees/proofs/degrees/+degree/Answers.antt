@@ -1,4 +1,4 @@
-use Rattle.std.proofs.Common.{◌≡◌, ap, sym, ◌∙◌, arith, map, drop, ◌+◌}
+use Rattle.std.proofs.Common.{ap, ◌∙◌, arith, map, drop, ◌+◌}
 use Rattle.degree_numbers.specs.declared.degree.Degree.{Degree}
 use Rattle.degree_numbers.specs.Degree.{degree_plus}
 use Rattle.plain_trees.specs.Degree.{degree_of, edge_degree_of}
