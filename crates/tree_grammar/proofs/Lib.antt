@@ -1,0 +1,5 @@
+pub mod Names
+pub mod Live
+pub mod PlaceLaw
+pub mod Accepts
+pub mod Sound
