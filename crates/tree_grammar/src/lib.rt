@@ -5,6 +5,8 @@ mod name_bytes;
 mod places;
 mod state;
 mod steps;
+mod words;
 
 pub use places::place;
-pub use steps::type_named;
+pub use steps::{name_byte, type_named};
+pub use words::{decorations_in, edges_in, entry_value, first_unknown, word};

@@ -7,7 +7,7 @@ use crate::name_bytes::NameBytes;
 use crate::state::{At, State};
 use degree_numbers::{Kind, Types};
 
-fn name_byte(b: u8) -> bool
+pub fn name_byte(b: u8) -> bool
     ensures { result ≡ is_name_byte b }
 {
     b.is_ascii_alphabetic() || b.is_ascii_digit() || b == b'_'

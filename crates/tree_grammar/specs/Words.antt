@@ -1,0 +1,46 @@
+-- The words of a text: letters, digits and `_` that stand together. In a tree text they are the names of the edges, `X` and the numbers.
+--   word text == the word at its front, which may be empty
+--   words_sum f text == the sum of f over the words that stand after each other byte
+--   entry_value text == the number that the digits at the front write; one past 2^31-1 counts as 2^31-1
+--   edges_in text == how many of the words are names
+--   decorations_in text == the sum of its numbers, which stops at 2^32-1
+--   is_unknown ty w == w is a name, and that of no type
+--   first_unknown ty text == the place of the first byte of the first unknown name
+use Rattle.std.specs.Prelude.{ℕ, ◌+◌, ◌-◌, ◌^◌, Bool, true, false, not, ◌&&◌, if◌then◌else◌, is_some, min, List, [], ◌∷◌, Option, Some, None}
+use Rattle.std.specs.List.{take_while}
+use Rattle.std.specs.Char.{is_ascii_digit}
+use Rattle.std.specs.Str.Parse.{digits_value}
+use Rattle.degree_numbers.specs.Name.{is_name, is_name_byte}
+use Rattle.degree_numbers.specs.declared.types.Types.{Types}
+use Rattle.tree_grammar.specs.Grammar.{number_named}
+
+abbrev pub word : List ℕ → List ℕ
+word text = take_while is_name_byte text
+
+abbrev pub words_sum : (List ℕ → ℕ) → List ℕ → ℕ
+words_sum f [] = 0
+words_sum f (b ∷ bs) = if is_name_byte b then words_sum f bs else f (word bs) + words_sum f bs
+
+unfoldable pub entry_value : List ℕ → ℕ
+entry_value text = min (digits_value 10 (take_while is_ascii_digit text)) (2 ^ 31 - 1)
+
+abbrev pub count_if : Bool → ℕ
+count_if true = 1
+count_if false = 0
+
+abbrev pub edges_in : List ℕ → ℕ
+edges_in text = words_sum (λ w. count_if (is_name w)) text
+
+abbrev pub decorations_in : List ℕ → ℕ
+decorations_in text = min (words_sum entry_value text) (2 ^ 32 - 1)
+
+abbrev pub is_unknown : Types → List ℕ → Bool
+is_unknown ty w = is_name w && not (is_some (number_named ty w))
+
+-- the first byte here has place i
+abbrev pub unknown_from : Types → ℕ → List ℕ → Option ℕ
+unknown_from ty i [] = None
+unknown_from ty i (b ∷ bs) = if not (is_name_byte b) && is_unknown ty (word bs) then Some (i + 1) else unknown_from ty (i + 1) bs
+
+abbrev pub first_unknown : Types → List ℕ → Option ℕ
+first_unknown ty text = unknown_from ty 0 text

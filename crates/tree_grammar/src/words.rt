@@ -1,0 +1,84 @@
+ghost use Rattle.std.specs.Prelude.{◌≡◌, ◌<◌, ◌^◌};
+ghost use Rattle.std.specs.List.{prefix_len};
+ghost use Rattle.degree_numbers.specs.Name.{is_name, is_name_byte};
+ghost use Rattle.tree_grammar.specs.Words.{word, words_sum, entry_value, count_if, edges_in, decorations_in, is_unknown, first_unknown};
+
+use crate::steps::{name_byte, type_named};
+use degree_numbers::{Name, Types};
+use text_parts::number_of;
+
+const LARGEST_ENTRY: u64 = i32::MAX as u64;
+
+fn word_len(text: &[u8]) -> usize
+    ensures { result ≡ prefix_len is_name_byte text.now }
+{
+    text.iter().take_while(|b| name_byte(**b)).count()
+}
+
+/// The letters, digits and `_` at the front.
+pub fn word(text: &[u8]) -> &[u8]
+    ensures { result.now ≡ word text.now }
+{
+    text.split_at(word_len(text)).0
+}
+
+/// The number that the digits at the front write. One past 2^31-1 counts as 2^31-1.
+pub fn entry_value(text: &[u8]) -> u32
+    ensures value { result ≡ entry_value text.now }
+    ensures fits { result < 2 ^ 31 }
+{
+    match number_of(text) {
+        Some((number, _)) => number.min(LARGEST_ENTRY) as u32,
+        None => 0,
+    }
+}
+
+fn is_name(text: &[u8]) -> bool
+    ensures { result ≡ is_name text.now }
+{
+    Name::new(text).is_some()
+}
+
+fn is_unknown(types: &Types, text: &[u8]) -> bool
+    ensures { result ≡ is_unknown types.now text.now }
+{
+    is_name(text) && type_named(types, text).is_none()
+}
+
+/// The place of the first byte of the first name that is no type's. Places count from 0.
+pub fn first_unknown(types: &Types, text: &[u8]) -> Option<usize>
+    ensures { result ≡ first_unknown types.now text.now }
+{
+    for i in 0..text.len() {
+        if !name_byte(text[i]) && is_unknown(types, word(&text[i + 1..])) {
+            return Some(i + 1);
+        }
+    }
+    None
+}
+
+/// How many names stand in a tree text: the number of its edges.
+pub fn edges_in(text: &[u8]) -> usize
+    ensures { result ≡ edges_in text.now }
+{
+    let mut count = 0;
+    for i in 0..text.len() {
+        if !name_byte(text[i]) && is_name(word(&text[i + 1..])) {
+            count += 1;
+        }
+    }
+    count
+}
+
+/// The sum of the numbers in a tree text, each at most 2^31-1. The sum stops at 2^32-1.
+pub fn decorations_in(text: &[u8]) -> u32
+    ensures { result ≡ decorations_in text.now }
+{
+    let mut total: u32 = 0;
+    for i in 0..text.len() {
+        if !name_byte(text[i]) {
+            total = total.saturating_add(entry_value(word(&text[i + 1..])));
+        }
+    }
+    total
+}
