@@ -4,3 +4,5 @@ pub mod Live
 pub mod PlaceLaw
 pub mod Accepts
 pub mod Sound
+pub mod WordSums
+pub mod Counts

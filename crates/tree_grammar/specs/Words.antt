@@ -6,13 +6,16 @@
 --   decorations_in text == the sum of its numbers, which stops at 2^32-1
 --   is_unknown ty w == w is a name, and that of no type
 --   first_unknown ty text == the place of the first byte of the first unknown name
-use Rattle.std.specs.Prelude.{ℕ, ◌+◌, ◌-◌, ◌^◌, Bool, true, false, not, ◌&&◌, if◌then◌else◌, is_some, min, List, [], ◌∷◌, Option, Some, None}
+--   edges_of t == the number of edges of a written tree
+--   decorations_of t == the sum of the numbers in its multiindices
+--   AreKnown ty t == the names of its edges are names of types
+use Rattle.std.specs.Prelude.{◌≡◌, ℕ, ◌+◌, ◌-◌, ◌^◌, Bool, true, false, not, ◌&&◌, if◌then◌else◌, is_some, min, List, [], ◌∷◌, Option, Some, None}
 use Rattle.std.specs.List.{take_while}
 use Rattle.std.specs.Char.{is_ascii_digit}
 use Rattle.std.specs.Str.Parse.{digits_value}
 use Rattle.degree_numbers.specs.Name.{is_name, is_name_byte}
 use Rattle.degree_numbers.specs.declared.types.Types.{Types}
-use Rattle.tree_grammar.specs.Grammar.{number_named}
+use Rattle.tree_grammar.specs.Grammar.{Written, root, leaf, planted, number_named}
 
 abbrev pub word : List ℕ → List ℕ
 word text = take_while is_name_byte text
@@ -44,3 +47,26 @@ unknown_from ty i (b ∷ bs) = if not (is_name_byte b) && is_unknown ty (word bs
 
 abbrev pub first_unknown : Types → List ℕ → Option ℕ
 first_unknown ty text = unknown_from ty 0 text
+
+abbrev pub edges_of : Written → ℕ
+edges_of (root x) = 0
+edges_of (leaf n p t) = 1 + edges_of t
+edges_of (planted n p c t) = 1 + edges_of c + edges_of t
+
+abbrev pub entries_sum : (List ℕ → ℕ) → List (List ℕ) → ℕ
+entries_sum f [] = 0
+entries_sum f (e ∷ es) = f e + entries_sum f es
+
+abbrev pub multi_sum : (List ℕ → ℕ) → Option (List (List ℕ)) → ℕ
+multi_sum f None = 0
+multi_sum f (Some es) = entries_sum f es
+
+abbrev pub decorations_of : Written → ℕ
+decorations_of (root x) = multi_sum entry_value x
+decorations_of (leaf n p t) = multi_sum entry_value p + decorations_of t
+decorations_of (planted n p c t) = multi_sum entry_value p + decorations_of c + decorations_of t
+
+abbrev pub AreKnown : Types → Written → Type 0
+AreKnown ty (root x) = Unit {0}
+AreKnown ty (leaf n p t) = (is_some (number_named ty n) ≡ true) × AreKnown ty t
+AreKnown ty (planted n p c t) = (is_some (number_named ty n) ≡ true) × AreKnown ty c × AreKnown ty t

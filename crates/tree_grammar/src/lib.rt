@@ -9,4 +9,4 @@ mod words;
 
 pub use places::place;
 pub use steps::{name_byte, type_named};
-pub use words::{decorations_in, edges_in, entry_value, first_unknown, word};
+pub use words::{decorations_in, edges_in, entry_value, first_unknown, word, word_laws};

@@ -1,7 +1,9 @@
-ghost use Rattle.std.specs.Prelude.{◌≡◌, ◌<◌, ◌^◌};
+ghost use Rattle.std.specs.Prelude.{◌≡◌, ◌<◌, ◌^◌, ◌-◌, ◌↔◌, min, None};
 ghost use Rattle.std.specs.List.{prefix_len};
 ghost use Rattle.degree_numbers.specs.Name.{is_name, is_name_byte};
-ghost use Rattle.tree_grammar.specs.Words.{word, words_sum, entry_value, count_if, edges_in, decorations_in, is_unknown, first_unknown};
+ghost use Rattle.degree_numbers.specs.declared.types.Types.{Types};
+ghost use Rattle.tree_grammar.specs.Grammar.{Written, IsGrammatical, written_text};
+ghost use Rattle.tree_grammar.specs.Words.{word, words_sum, entry_value, count_if, edges_in, decorations_in, is_unknown, first_unknown, edges_of, decorations_of, AreKnown};
 
 use crate::steps::{name_byte, type_named};
 use degree_numbers::{Name, Types};
@@ -82,3 +84,10 @@ pub fn decorations_in(text: &[u8]) -> u32
     }
     total
 }
+
+/// What the words of a written tree's text say of it: they count its edges, sum up its decorations, and show whether a name is that of no type.
+pub fn word_laws()
+    ensures edges { (ty : Types) (t : Written) → 0 < ty.dims → IsGrammatical ty t → edges_in (written_text t) ≡ edges_of t }
+    ensures decorations { (ty : Types) (t : Written) → 0 < ty.dims → IsGrammatical ty t → decorations_in (written_text t) ≡ min (decorations_of t) (2 ^ 32 - 1) }
+    ensures unknown { (ty : Types) (t : Written) → 0 < ty.dims → IsGrammatical ty t → first_unknown ty (written_text t) ≡ None ↔ AreKnown ty t }
+{}
