@@ -1,3 +1,6 @@
+pub mod Divisors
+pub mod Kept
+pub mod Lowest
 pub mod Multis
 pub mod Names
 pub mod Orders

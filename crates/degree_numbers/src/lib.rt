@@ -2,14 +2,24 @@
 #![tactic(auto)]
 
 mod degree;
+mod degree_text;
+mod fraction;
 mod laws;
 mod multi;
 mod name;
+mod part;
+mod reading;
+mod reduced;
+mod refusal;
 mod scaled;
 mod types;
+mod written;
 
 pub use degree::{Degree, Units};
 pub use laws::{degrees_are_ordered, multis_are_ordered};
 pub use multi::Multi;
 pub use name::Name;
+pub use reading::read_degree;
+pub use refusal::DegreeRefusal;
 pub use types::{Kind, TypeEntry, TypeId, Types};
+pub use written::WrittenDegree;
