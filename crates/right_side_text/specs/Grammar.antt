@@ -5,7 +5,7 @@
 --   derivative_at dims text == `'(` and one number for each dimension and `)`; no entries where it is not written
 --   factor_at dims text == a name, perhaps a derivative, perhaps a power
 --   factors_at n dims found text == one to n factors joined by `*`, after those found
---   coefficient_at text == a whole number or a fraction, whose denominator is not 0
+--   coefficient_at negative text == a whole number or a fraction, whose denominator is not 0, under this sign
 --   term_at dims negative text == a coefficient, or factors, or a coefficient and `*` and factors, under this sign
 --   sign_at text == `+` or `-`, and whether it is `-`
 --   terms_at n dims found text == at most n terms, each behind its sign, up to the end of the text, after those found
@@ -16,6 +16,7 @@ use Rattle.std.specs.List.{prefix_len}
 use Rattle.degree_numbers.specs.Name.{is_name, is_name_byte}
 use Rattle.text_parts.specs.Reading.{◌>>=◌, skip, digits_len, number_at, mark_at, if_there, nonzero_after, is_trimmed}
 use Rattle.right_side_text.specs.declared.written.WrittenFactor.{WrittenFactor}
+use Rattle.right_side_text.specs.declared.written.WrittenFraction.{WrittenFraction}
 use Rattle.right_side_text.specs.declared.written.WrittenTerm.{WrittenTerm}
 
 unfoldable pub name_at : List ℕ → Option (List ℕ × List ℕ)
@@ -54,24 +55,24 @@ factors_at (suc n) dims found text = do
   f ← factor_at dims text
   if_there (mark_at 42 f.1) (factors_at n dims (found ++ f.0 ∷ [])) (Some (found ++ f.0 ∷ [], f.1))
 
-unfoldable pub coefficient_at : List ℕ → Option ((ℕ × ℕ) × List ℕ)
-coefficient_at text = do
+unfoldable pub coefficient_at : Bool → List ℕ → Option (WrittenFraction × List ℕ)
+coefficient_at negative text = do
   num ← number_at text
   den ← nonzero_after 47 num.1
-  Some ((num.0, den.0), den.1)
+  Some (record { negative = negative; num = num.0; den = den.0 }, den.1)
 
 -- factors alone
 unfoldable pub bare_at : ℕ → Bool → List ℕ → Option (WrittenTerm × List ℕ)
 bare_at dims negative text = do
   factors ← factors_at (length text) dims [] text
-  Some (record { negative = negative; num = 1; den = 1; factors = factors.0 }, factors.1)
+  Some (record { coefficient = record { negative = negative; num = 1; den = 1 }; factors = factors.0 }, factors.1)
 
 -- a coefficient, and perhaps `*` and factors
 unfoldable pub with_coefficient_at : ℕ → Bool → List ℕ → Option (WrittenTerm × List ℕ)
 with_coefficient_at dims negative text = do
-  c ← coefficient_at text
+  c ← coefficient_at negative text
   factors ← if_there (mark_at 42 c.1) (λ rest. factors_at (length rest) dims [] rest) (Some ([], c.1))
-  Some (record { negative = negative; num = c.0.0; den = c.0.1; factors = factors.0 }, factors.1)
+  Some (record { coefficient = c.0; factors = factors.0 }, factors.1)
 
 unfoldable pub term_at : ℕ → Bool → List ℕ → Option (WrittenTerm × List ℕ)
 term_at dims negative text = if digits_len text == 0 then bare_at dims negative text else with_coefficient_at dims negative text

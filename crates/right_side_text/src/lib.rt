@@ -9,4 +9,4 @@ mod written;
 pub use denominator::Denominator;
 pub use fault::ReadError;
 pub use reading::read_right_side;
-pub use written::{WrittenFactor, WrittenTerm};
+pub use written::{WrittenFactor, WrittenFraction, WrittenTerm};

@@ -8,7 +8,7 @@ ghost use Rattle.right_side_text.specs.Grammar.{name_at, entry_at, entries_at, d
 
 use crate::denominator::Denominator;
 use crate::fault::ReadError;
-use crate::written::{WrittenFactor, WrittenTerm};
+use crate::written::{WrittenFactor, WrittenFraction, WrittenTerm};
 use degree_numbers::Name;
 use sqlite_items::Items;
 use std::alloc::Global;
@@ -117,12 +117,13 @@ fn factors_of(
 }
 
 #[tactic(auto, unfolding(crate::specs::Grammar::coefficient_at))]
-fn coefficient_of(text: &[u8]) -> Option<((u64, Denominator), &[u8])>
-    ensures { option_map (λ x. (x.0, x.1.now)) result ≡ coefficient_at text.now }
+fn coefficient_of(negative: bool, text: &[u8]) -> Option<(WrittenFraction, &[u8])>
+    ensures { option_map (λ x. (x.0, x.1.now)) result ≡ coefficient_at negative text.now }
 {
     let (num, rest) = number_of(text)?;
     let (den, rest) = nonzero_behind(b'/', rest)?;
-    Some(((num, Denominator::new(den)), rest))
+    let den = Denominator::new(den);
+    Some((WrittenFraction { negative, num, den }, rest))
 }
 
 #[tactic(auto, unfolding(crate::specs::Grammar::bare_at))]
@@ -135,11 +136,14 @@ fn bare_of(
     ensures { Gives (λ x. (x.0, x.1.now)) result (bare_at dims negative text.now) }
 {
     let (factors, rest) = factors_of(alloc, dims, text)?;
+    let coefficient = WrittenFraction {
+        negative,
+        num: 1,
+        den: Denominator::new(1),
+    };
     Ok((
         WrittenTerm {
-            negative,
-            num: 1,
-            den: Denominator::new(1),
+            coefficient,
             factors,
         },
         rest,
@@ -155,7 +159,7 @@ fn with_coefficient_of(
 ) -> Result<(WrittenTerm, &[u8]), ReadError>
     ensures { Gives (λ x. (x.0, x.1.now)) result (with_coefficient_at dims negative text.now) }
 {
-    let Some(((num, den), rest)) = coefficient_of(text) else {
+    let Some((coefficient, rest)) = coefficient_of(negative, text) else {
         return Err(ReadError::Outside);
     };
     let (factors, rest) = match mark_of(b'*', rest) {
@@ -164,9 +168,7 @@ fn with_coefficient_of(
     };
     Ok((
         WrittenTerm {
-            negative,
-            num,
-            den,
+            coefficient,
             factors,
         },
         rest,

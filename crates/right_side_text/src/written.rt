@@ -11,11 +11,17 @@ pub struct WrittenFactor {
     pub power: u64,
 }
 
-/// A term: its coefficient as a sign and a fraction, 1 where none is written, and its factors.
-#[derive(Debug, Drop)]
-pub struct WrittenTerm {
+/// A fraction under its sign. A written number past 2^63-1 counts as 2^63-1.
+#[derive(Clone, Copy, Debug, PartialEq, Eq)]
+pub struct WrittenFraction {
     pub negative: bool,
     pub num: u64,
     pub den: Denominator,
+}
+
+/// A term: its coefficient, 1 where none is written, and its factors.
+#[derive(Debug, Drop)]
+pub struct WrittenTerm {
+    pub coefficient: WrittenFraction,
     pub factors: Items<WrittenFactor>,
 }
