@@ -1,0 +1,5 @@
+pub mod Causes
+pub mod Told
+pub mod Texts
+pub mod Memory
+pub mod Quiet

@@ -1,0 +1,28 @@
+//! What the workbench asks of the outside: files that are read whole, and places to write to.
+//!
+//! Each trait says what an object tells of its content, where it tells, and counts its faults:
+//! a call answers a fault only where the count rose in it. Beside the adapters over the host stand objects in memory, for tests.
+#![tactic(auto)]
+
+mod files;
+mod host_files;
+mod lookup;
+mod memory_files;
+mod memory_sink;
+mod named_text;
+mod quiet_files;
+mod quiet_sink;
+mod sink;
+mod stream_sink;
+#[cfg(test)]
+mod tests;
+
+pub use files::{Files, OutsideError};
+pub use host_files::HostFiles;
+pub use memory_files::MemoryFiles;
+pub use memory_sink::MemorySink;
+pub use named_text::NamedText;
+pub use quiet_files::QuietFiles;
+pub use quiet_sink::QuietSink;
+pub use sink::{Failed, Sink};
+pub use stream_sink::StreamSink;
