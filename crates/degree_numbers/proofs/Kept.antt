@@ -3,10 +3,10 @@ use Rattle.std.proofs.Common.{◌≡◌, ℕ, ◌≤◌, ◌<◌, ap, ◌<ℤ◌
 use Rattle.std.specs.Int.{IsGcd}
 use Rattle.std.proofs.lemmas.Int.{ints, to_z-of_z}
 
-num_kept : (z : ℤ) → unsigned_abs z ≤ 1000000 → to_z w64 (of_z w64 z) ≡ z
+pub num_kept : (z : ℤ) → unsigned_abs z ≤ 1000000 → to_z w64 (of_z w64 z) ≡ z
 num_kept z h = let fits : FitsSigned w64 z = omega (arith, ints) in to_z-of_z w64 z fits
 
-den_kept : (z : ℤ) → pos 0 <ℤ z → z ≤ℤ pos 1000000 → to_z w64 (of_z w64 z) ≡ z
+pub den_kept : (z : ℤ) → pos 0 <ℤ z → z ≤ℤ pos 1000000 → to_z w64 (of_z w64 z) ≡ z
 den_kept z h k = let fits : FitsSigned w64 z = omega (arith, ints) in to_z-of_z w64 z fits
 
 pub lowest_kept : (x y : ℤ) → unsigned_abs x ≤ 1000000 → pos 0 <ℤ y → y ≤ℤ pos 1000000 → IsGcd (unsigned_abs x) (unsigned_abs y) 1 → IsGcd (unsigned_abs (to_z w64 (of_z w64 x))) (unsigned_abs (to_z w64 (of_z w64 y))) 1

@@ -1,3 +1,4 @@
+pub mod Common
 pub mod Divisors
 pub mod Kept
 pub mod Lowest

@@ -4,5 +4,6 @@ pub mod DegreeText
 pub mod Fraction
 pub mod Name
 pub mod Types
+pub mod Units
 pub mod View
 pub mod Written

@@ -13,6 +13,7 @@ mod reduced;
 mod refusal;
 mod scaled;
 mod types;
+mod units;
 mod written;
 
 pub use degree::{Degree, Units};
@@ -22,4 +23,5 @@ pub use name::Name;
 pub use reading::read_degree;
 pub use refusal::DegreeRefusal;
 pub use types::{Kind, TypeEntry, TypeId, Types};
+pub use units::{common_denominator, join_units, with_denominator};
 pub use written::WrittenDegree;
