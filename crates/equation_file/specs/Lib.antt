@@ -1,2 +1,3 @@
 pub mod EdgeTypes
 pub mod Accepted
+pub mod Collect

@@ -1,8 +1,10 @@
 //! Equation files: from the bytes of a file to the equation that it writes down.
 #![tactic(auto)]
 
+mod collect;
 mod edge_types;
 mod equation;
+mod product;
 
 pub use edge_types::{edge_type_laws, edge_type_order};
 pub use equation::{Equation, RightTerm, Unknown};
