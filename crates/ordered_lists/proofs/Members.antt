@@ -1,6 +1,7 @@
--- Members of joined, mapped and flattened lists.
-use Rattle.std.proofs.Common.{◌≡◌, List, [], ◌∷◌, ◌++◌, map, refl, ap, sym, subst, inl, inr, ◌⊎◌}
-use Rattle.std.specs.List.{flat_map}
+-- Members of joined, mapped and flattened lists, and of what holds of all.
+use Rattle.std.proofs.Common.{◌≡◌, ℕ, ◌<◌, suc, zero, List, [], ◌∷◌, ◌++◌, length, map, get_or, refl, ap, sym, subst, inl, inr, ◌⊎◌, arith}
+use Rattle.std.specs.List.{flat_map, All}
+use Rattle.std.proofs.lemmas.List.Elements.{All-tail}
 use Rattle.ordered_lists.specs.Members.{IsIn}
 
 pub in_append_left : {X : Type 0} (n : X) (xs ys : List X) → IsIn n xs → IsIn n (xs ++ ys)
@@ -34,3 +35,13 @@ pub from_flat_map : {X Y : Type 0} (f : X → List Y) (n : Y) (xs : List X) → 
 from_flat_map f n [] h = absurd h
 from_flat_map f n (x ∷ xs) h =
     elim (from_append n (f x) (flat_map f xs) h) [ inl a ↦ (x, inl refl, a) | inr b ↦ let s = from_flat_map f n xs b in (s.0, inr s.1, s.2) ]
+
+-- what holds of each element holds of a member
+pub all_at : {X : Type 0} (P : X → Type 0) (xs : List X) (n : X) → All P xs → IsIn n xs → P n
+all_at P [] n a h = absurd h
+all_at P (x ∷ xs) n a h = elim h [ inl e ↦ subst P e (a 0 x (omega arith)) | inr r ↦ all_at P xs n (All-tail P x xs a) r ]
+
+pub member_at : {X : Type 0} (xs : List X) (i : ℕ) (x : X) → i < length xs → x ≡ get_or xs i x → IsIn x xs
+member_at [] i x lt is = absurd (omega arith)
+member_at (y ∷ ys) zero x lt is = inl (sym is)
+member_at (y ∷ ys) (suc i) x lt is = inr (member_at ys i x (omega arith) is)

@@ -1,0 +1,23 @@
+use Rattle.std.proofs.Common.{◌≡◌, subst, sym}
+use Rattle.std.specs.Prelude.{◌<◌}
+use Rattle.std.proofs.lemmas.Result.{IfOk-weaker, IfErr-weaker}
+use Rattle.normal_rule.specs.declared.rule.RuleRefusal.TheVariants.{RuleTooLarge}
+use Rattle.normal_rule.specs.Made.{rule_of}
+use Rattle.normal_rule.specs.Rule.{IsNormalRule, IsNormal, node_count}
+use Rattle.normal_rule.proofs.RuleLaws.{rule_is, rule_normal}
+use Rattle.normal_rule.proofs.row.normal_rule.Goals as goal
+
+pub returns-clause-rule : goal.returns-clause-rule
+returns-clause-rule c =
+    IfOk-weaker c.made.result (λ rule. rule ≡ rule_of c.args.eq.now) (IsNormalRule c.args.eq.now)
+    (λ rule e. subst (IsNormalRule c.args.eq.now) (sym e) (rule_is c.args.eq.now c.requires)) c.made.ensures.rule
+
+pub returns-clause-normal : goal.returns-clause-normal
+returns-clause-normal c =
+    IfOk-weaker c.made.result (λ rule. rule ≡ rule_of c.args.eq.now) IsNormal
+    (λ rule e. subst IsNormal (sym e) (rule_normal c.args.eq.now (rule_of c.args.eq.now) c.requires (rule_is c.args.eq.now c.requires))) c.made.ensures.rule
+
+pub returns-clause-large : goal.returns-clause-large
+returns-clause-large c =
+    IfErr-weaker c.made.result (λ e. e ≡ RuleTooLarge → 2000 < node_count (rule_of c.args.eq.now)) _
+    (λ _ more e. (rule_of c.args.eq.now, rule_is c.args.eq.now c.requires, more e)) c.made.ensures.large

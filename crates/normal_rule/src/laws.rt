@@ -1,0 +1,26 @@
+// Laws of node types and of the normal rule.
+ghost use Rattle.std.specs.Prelude.{◌≡◌};
+ghost use Rattle.std.specs.Cmp.{IsTotalOrder};
+ghost use Rattle.std.specs.FinMap.{IsAntisymmetric};
+ghost use Rattle.equation_file.specs.declared.equation.Equation.{Equation};
+ghost use Rattle.equation_file.specs.Accepted.{IsEquation};
+ghost use Rattle.equation_file.specs.EdgeTypes.{node_type_order};
+ghost use Rattle.normal_rule.specs.declared.rule.NodeType.{NodeType};
+ghost use Rattle.normal_rule.specs.declared.rule.Rule.{Rule};
+ghost use Rattle.normal_rule.specs.Order.{pairs, edge_order, node_order};
+ghost use Rattle.normal_rule.specs.Rule.{IsNormalRule, IsNormal};
+
+/// The orders of edge types and of node types are total and tie only what is equal, and the order of node types is that of their lists of types with
+/// multiindices.
+pub fn node_order_laws()
+    ensures edges { IsTotalOrder edge_order × IsAntisymmetric edge_order }
+    ensures nodes { IsTotalOrder node_order × IsAntisymmetric node_order }
+    ensures pairs { (n m : NodeType) → node_order n m ≡ node_type_order (pairs n) (pairs m) }
+{}
+
+/// Every equation of an accepted file has exactly one normal rule, and it is normal.
+pub fn normal_rule_laws()
+    ensures exists { (eq : Equation) → IsEquation eq → (rule : Rule) × IsNormalRule eq rule }
+    ensures unique { (eq : Equation) (rule other : Rule) → IsNormalRule eq rule → IsNormalRule eq other → rule ≡ other }
+    ensures normal { (eq : Equation) (rule : Rule) → IsEquation eq → IsNormalRule eq rule → IsNormal rule }
+{}
