@@ -51,7 +51,7 @@ pub edges_law : (ty : Types) (t : Written) → 0 < ty.dims → IsGrammatical ty 
 edges_law ty t d h = sum_written (λ w. count_if (is_name w)) refl refl ty d t h ∙ edges_written ty t h
 
 -- decorations
-value_empty : entry_value [] ≡ 0
+pub value_empty : entry_value [] ≡ 0
 unfolding entry_value
 value_empty = refl
 

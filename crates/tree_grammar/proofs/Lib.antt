@@ -6,3 +6,5 @@ pub mod Accepts
 pub mod Sound
 pub mod WordSums
 pub mod Counts
+pub mod Entries
+pub mod Numbers

@@ -9,7 +9,10 @@
 --   edges_of t == the number of edges of a written tree
 --   decorations_of t == the sum of the numbers in its multiindices
 --   AreKnown ty t == the names of its edges are names of types
-use Rattle.std.specs.Prelude.{◌≡◌, ℕ, ◌+◌, ◌-◌, ◌^◌, Bool, true, false, not, ◌&&◌, if◌then◌else◌, is_some, min, List, [], ◌∷◌, Option, Some, None}
+--   next_entry text == what stands behind the word at the front and a comma
+--   entries_at k text == the numbers at the front, joined by commas, as k entries; those that are not written are 0
+--   multi_of x == the five entries of a written multiindex; those that are not written are 0
+use Rattle.std.specs.Prelude.{◌≡◌, ◌==◌, ℕ, zero, suc, drop, length, ◌+◌, ◌-◌, ◌^◌, Bool, true, false, not, ◌&&◌, if◌then◌else◌, is_some, min, List, [], ◌∷◌, Option, Some, None}
 use Rattle.std.specs.List.{take_while}
 use Rattle.std.specs.Char.{is_ascii_digit}
 use Rattle.std.specs.Str.Parse.{digits_value}
@@ -70,3 +73,23 @@ abbrev pub AreKnown : Types → Written → Type 0
 AreKnown ty (root x) = Unit {0}
 AreKnown ty (leaf n p t) = (is_some (number_named ty n) ≡ true) × AreKnown ty t
 AreKnown ty (planted n p c t) = (is_some (number_named ty n) ≡ true) × AreKnown ty c × AreKnown ty t
+
+abbrev pub behind_comma : List ℕ → List ℕ
+behind_comma [] = []
+behind_comma (c ∷ cs) = if c == 44 then cs else []
+
+abbrev pub next_entry : List ℕ → List ℕ
+next_entry text = behind_comma (drop (length (word text)) text)
+
+abbrev pub entries_at : ℕ → List ℕ → List ℕ
+entries_at zero text = []
+entries_at (suc k) text = entry_value text ∷ entries_at k (next_entry text)
+
+abbrev pub values : ℕ → List (List ℕ) → List ℕ
+values zero es = []
+values (suc k) [] = 0 ∷ values k []
+values (suc k) (e ∷ es) = entry_value e ∷ values k es
+
+abbrev pub multi_of : Option (List (List ℕ)) → List ℕ
+multi_of None = values 5 []
+multi_of (Some es) = values 5 es

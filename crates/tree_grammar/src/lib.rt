@@ -9,4 +9,6 @@ mod words;
 
 pub use places::place;
 pub use steps::{name_byte, type_named};
-pub use words::{decorations_in, edges_in, entry_value, first_unknown, word, word_laws};
+pub use words::{
+    decorations_in, edges_in, entry_value, first_unknown, is_name, multi_at, word, word_laws,
+};

@@ -1,4 +1,4 @@
-ghost use Rattle.std.specs.Prelude.{◌≡◌, ◌+◌, ◌≤◌, ◌<◌, ◌^◌, IfSome, IsTrue};
+ghost use Rattle.std.specs.Prelude.{◌≡◌, ◌+◌, ◌≤◌, ◌<◌, ◌^◌, IfSome, IsTrue, length};
 ghost use Rattle.degree_numbers.specs.Name.{is_name_byte, is_reserved};
 ghost use Rattle.tree_grammar.specs.Grammar.{number_named, kind_named};
 ghost use Rattle.tree_grammar.specs.Step.{opened, closed, follow_by, step_by, step_factor, step_name, step_named, step_digits};
@@ -24,7 +24,8 @@ fn reserved(name: &[u8]) -> bool
 
 /// The number of the first type with this name.
 pub fn type_named(types: &Types, name: &[u8]) -> Option<usize>
-    ensures { result ≡ number_named types.now name.now }
+    ensures number { result ≡ number_named types.now name.now }
+    ensures within { IfSome result (λ k. k < length types.now.list) }
 {
     types
         .list
