@@ -7,3 +7,4 @@ pub mod Names
 pub mod Orders
 pub mod ScaledSizes
 pub mod TypeBounds
+pub mod UnitLemmas

@@ -23,5 +23,5 @@ pub use name::Name;
 pub use reading::read_degree;
 pub use refusal::DegreeRefusal;
 pub use types::{Kind, TypeEntry, TypeId, Types};
-pub use units::{common_denominator, join_units, with_denominator};
+pub use units::{common_denominator, in_units, join_units, with_denominator};
 pub use written::WrittenDegree;

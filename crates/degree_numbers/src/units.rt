@@ -1,5 +1,5 @@
 // Common denominators of degrees.
-ghost use Rattle.std.specs.Prelude.{◌≡◌, ◌≤◌, ◌<◌, ◌^◌, ◌++◌, List, [], ◌∷◌, Bool, ℕ, pos, unsigned_abs, ◌*ℤ◌, ◌<ℤ◌, ◌≤ℤ◌, IfOk, IfErr};
+ghost use Rattle.std.specs.Prelude.{◌≡◌, ◌≤◌, ◌<◌, ◌/◌, ◌++◌, List, [], ◌∷◌, Bool, ℕ, pos, unsigned_abs, ◌*ℤ◌, ◌<ℤ◌, ◌≤ℤ◌, IfOk, IfErr};
 ghost use Rattle.std.specs.Int.{IsGcd, ◌∣◌};
 ghost use Rattle.degree_numbers.specs.Fraction.{Fraction as Plain, IsCommon};
 ghost use Rattle.degree_numbers.specs.declared.refusal.DegreeRefusal.TheVariants.{DenominatorTooLarge};
@@ -75,4 +75,42 @@ pub fn join_units(list: &[WrittenDegree]) -> Result<Units, DegreeRefusal>
         return Err(DegreeRefusal::DenominatorTooLarge);
     }
     Ok(Units { den: common as i64 })
+}
+
+// How often den goes into unit.
+fn times(den: u64, unit: u64) -> i64
+    requires above { 0 < den }
+    requires fits { unit ≤ 1000000 }
+    ensures value { result ≡ pos (unit / den) }
+    ensures fits { unsigned_abs result ≤ 1000000 }
+{
+    (unit / den) as i64
+}
+
+// num over den, in units of one over unit.
+fn in_unit(num: i64, den: i64, unit: i64) -> i64
+    requires num { unsigned_abs num ≤ 1000000 }
+    requires den { pos 0 <ℤ den }
+    requires den_fits { den ≤ℤ pos 1000000 }
+    requires above { pos 0 <ℤ unit }
+    requires fits { unit ≤ℤ pos 1000000 }
+    requires whole { unsigned_abs den ∣ unsigned_abs unit }
+    ensures { result *ℤ den ≡ num *ℤ unit }
+{
+    num * times(den.unsigned_abs(), unit.unsigned_abs())
+}
+
+/// The degree in these units, exactly.
+pub fn in_units(w: &WrittenDegree, units: Units) -> Degree
+    requires above { pos 0 <ℤ units.den }
+    requires fits { units.den ≤ℤ pos 1000000 }
+    requires a_whole { unsigned_abs w.now.a_den ∣ unsigned_abs units.den }
+    requires b_whole { unsigned_abs w.now.b_den ∣ unsigned_abs units.den }
+    ensures a { result.a *ℤ w.now.a_den ≡ w.now.a_num *ℤ units.den }
+    ensures b { result.b *ℤ w.now.b_den ≡ w.now.b_num *ℤ units.den }
+{
+    Degree {
+        a: in_unit(w.a_num, w.a_den, units.den),
+        b: in_unit(w.b_num, w.b_den, units.den),
+    }
 }
