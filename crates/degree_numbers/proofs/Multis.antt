@@ -1,5 +1,5 @@
 -- Sums and differences of multiindices.
-use Rattle.std.proofs.Common.{◌≡◌, ℕ, zero, suc, ◌+◌, ◌*◌, ◌-◌, ◌<◌, ◌≤◌, List, [], ◌∷◌, length, slice_index, arith, refl, ap, ◌∙◌}
+use Rattle.std.proofs.Common.{◌≡◌, ℕ, suc, ◌+◌, ◌-◌, ◌<◌, ◌≤◌, List, [], ◌∷◌, length, slice_index, arith, refl}
 use Rattle.degree_numbers.specs.Multi.{plus_of, minus_of, IsAtMost, scaled_size}
 
 -- what was added is taken away again

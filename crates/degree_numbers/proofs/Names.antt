@@ -1,5 +1,5 @@
 -- Names in their buffers.
-use Rattle.std.proofs.Common.{◌≡◌, ℕ, zero, suc, ◌-◌, ◌≤◌, List, [], ◌∷◌, ◌++◌, drop, length, refl, ap, ◌∙◌, arith, sym}
+use Rattle.std.proofs.Common.{◌≡◌, ℕ, zero, suc, ◌-◌, List, ◌++◌, drop, length, refl, ap, ◌∙◌, arith, sym}
 use Rattle.degree_numbers.specs.Name.{padding}
 
 drop_padding : (n m : ℕ) → drop n (padding m) ≡ padding (m - n)

@@ -1,6 +1,6 @@
 -- Multiindices and degrees are totally ordered, and what compares equal is equal.
-use Rattle.std.proofs.Common.{◌≡◌, ℕ, ℤ, ◌+ℤ◌, ◌<ℤ◌, List, refl, ap, sym, ◌∙◌, arith, Ordering, Less, Equal, Greater}
-use Rattle.std.specs.Ordering.{int_cmp, on, ordering_then, MatchOrdering}
+use Rattle.std.proofs.Common.{◌≡◌, ℤ, ◌+ℤ◌, ◌<ℤ◌, refl, ap, sym, ◌∙◌, arith, Ordering, Less, Equal, Greater}
+use Rattle.std.specs.Ordering.{int_cmp, ordering_then, MatchOrdering}
 use Rattle.std.specs.Cmp.{IsTotalOrder, int_cmp_is}
 use Rattle.std.proofs.lemmas.Cmp.{on_total, then_total, nat_list_cmp_total, int_cmp_total, int_ranked}
 use Rattle.std.proofs.lemmas.Map.Lookups.{exact_bytes, exact_signed, CmpEqualImpliesEq}

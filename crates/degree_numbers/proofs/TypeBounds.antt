@@ -1,15 +1,14 @@
 -- What the types of a file keep, for callers that count with them.
-use Rattle.std.proofs.Common.{◌≡◌, ℕ, zero, suc, ◌+◌, ◌*◌, ◌<◌, ◌≤◌, ℤ, pos, ◌≤ℤ◌, neg_ℤ, List, [], ◌∷◌, length, take, drop, arith, refl, Some, None, subst, sym, unsigned_abs, ◌-◌, length-drop}
-use Rattle.std.specs.Prelude.{⊤, slice_get, unwrap_or}
-use Rattle.std.specs.List.{AllByRecursion, prefix_len}
+use Rattle.std.proofs.Common.{◌≡◌, ℕ, zero, suc, ◌≤◌, ℤ, List, [], ◌∷◌, length, take, drop, arith, unsigned_abs, ◌-◌, length-drop}
+use Rattle.std.specs.Prelude.{slice_get, unwrap_or}
+use Rattle.std.specs.List.{AllByRecursion}
 use Rattle.std.specs.Option.{option_map}
 use Rattle.std.proofs.lemmas.Int.{ints}
-use Rattle.std.proofs.lemmas.List.Sums.{prefix_len-le-length}
 use Rattle.degree_numbers.specs.declared.degree.Degree.{Degree}
 use Rattle.degree_numbers.specs.declared.types.Types.{Types}
 use Rattle.degree_numbers.specs.declared.types.TypeEntry.{TypeEntry}
 use Rattle.degree_numbers.specs.Degree.{degree_zero, IsWithin}
-use Rattle.degree_numbers.specs.Types.{AreTypes, IsScaling, IsWritable, IsNoiseEntry, IsKernelEntry, type_degree, noise_count, noises, kernels}
+use Rattle.degree_numbers.specs.Types.{AreTypes, IsWritable, IsNoiseEntry, IsKernelEntry, type_degree, noise_count, kernels}
 
 -- what holds of each element gives what is weaker
 pub all_weaker : {A : Type 0} (P Q : A → Type 0) (xs : List A) → ((x : A) → P x → Q x) → AllByRecursion P xs → AllByRecursion Q xs

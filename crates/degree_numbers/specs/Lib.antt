@@ -1,7 +1,8 @@
-pub mod Multi
 pub mod Degree
 pub mod DegreeText
+pub mod EdgeText
 pub mod Fraction
+pub mod Multi
 pub mod Name
 pub mod Types
 pub mod Units

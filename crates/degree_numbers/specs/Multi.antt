@@ -1,13 +1,18 @@
 -- Multiindices as lists of numbers, by direction.
+--   is_zero m == all entries are 0
 --   plus_of m l == the sum, entry by entry
 --   minus_of m l == the difference, entry by entry, stopping at 0
 --   IsAtMost m l == no entry of m is greater than that of l
 --   multi_order m l == lexicographic order from the first entry
 --   scaled_size s m == the scaled size |m|_s: the sum of s_i * m_i
-use Rattle.std.specs.Prelude.{ℕ, ◌+◌, ◌*◌, ◌-◌, ◌≤◌, ◌<◌, List, [], ◌∷◌, slice_index}
+use Rattle.std.specs.Prelude.{ℕ, ◌+◌, ◌*◌, ◌-◌, ◌≤◌, ◌<◌, ◌==◌, Bool, List, [], ◌∷◌, slice_index}
+use Rattle.std.specs.List.{list_all}
 use Rattle.std.specs.Ordering.{nat_cmp}
 use Rattle.std.specs.Cmp.Lexicographic.{slice_cmp}
 use Rattle.std.specs.declared.cmp.Ordering.{Ordering}
+
+abbrev pub is_zero : List ℕ → Bool
+is_zero m = list_all (λ x. x == 0) m
 
 abbrev pub plus_of : List ℕ → List ℕ → List ℕ
 plus_of [] ys = ys

@@ -4,6 +4,7 @@
 mod degree;
 mod degree_text;
 mod fraction;
+mod edge_text;
 mod laws;
 mod multi;
 mod name;
@@ -17,6 +18,7 @@ mod units;
 mod written;
 
 pub use degree::{Degree, Units};
+pub use edge_text::{put_edge_type, put_multi};
 pub use laws::{degrees_are_ordered, multis_are_ordered};
 pub use multi::Multi;
 pub use name::Name;

@@ -1,6 +1,6 @@
 // Multiindices.
 ghost use Rattle.std.specs.Prelude.{◌≡◌, ◌<◌, ◌^◌, ◌+◌, ◌∷◌, [], ℕ, sum, slice_index, IsTrue, ◌↔◌, IfSome, IsSome};
-ghost use Rattle.degree_numbers.specs.Multi.{plus_of, minus_of, IsAtMost, multi_order};
+ghost use Rattle.degree_numbers.specs.Multi.{is_zero, plus_of, minus_of, IsAtMost, multi_order};
 
 use std::cmp::Ordering;
 
@@ -16,6 +16,13 @@ impl Multi {
         ensures { result.entries ≡ 0 ∷ 0 ∷ 0 ∷ 0 ∷ 0 ∷ [] }
     {
         Multi { entries: [0; 5] }
+    }
+
+    /// Whether all entries are 0.
+    pub fn is_zero(&self) -> bool
+        ensures { result ≡ is_zero self.now.entries }
+    {
+        self.entries.iter().all(|x| *x == 0)
     }
 
     /// The sum, entry by entry.

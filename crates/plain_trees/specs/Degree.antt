@@ -11,8 +11,8 @@
 --   IsMultiIndex dims m == m has five entries, and those past the number of directions are 0
 --   IsEdge ty k p child == type k is in the list, p is a multiindex, and an edge of a noise ends in the empty tree
 --   HasTypes ty t == so it is with each edge of t, and the decoration of each node is a multiindex
-use Rattle.std.specs.Prelude.{ℕ, ◌≡◌, ◌<◌, ◌==◌, ◌&&◌, Bool, true, false, pos, neg_ℤ, List, [], ◌∷◌, length, drop}
-use Rattle.std.specs.List.{AllByRecursion, list_all}
+use Rattle.std.specs.Prelude.{ℕ, ◌≡◌, ◌<◌, ◌&&◌, Bool, true, false, pos, neg_ℤ, List, [], ◌∷◌, length, drop}
+use Rattle.std.specs.List.{AllByRecursion}
 use Rattle.std.specs.declared.option.Option.{Option}
 use Rattle.std.specs.declared.option.Option.TheVariants.{Some, None}
 use Rattle.degree_numbers.specs.declared.degree.Degree.{Degree}
@@ -20,7 +20,7 @@ use Rattle.degree_numbers.specs.declared.types.Types.{Types}
 use Rattle.degree_numbers.specs.declared.types.Kind.{Kind}
 use Rattle.degree_numbers.specs.declared.types.Kind.TheVariants.{Noise, Kernel}
 use Rattle.degree_numbers.specs.Degree.{degree_plus}
-use Rattle.degree_numbers.specs.Multi.{scaled_size}
+use Rattle.degree_numbers.specs.Multi.{is_zero, scaled_size}
 use Rattle.degree_numbers.specs.Types.{type_degree, kind_of}
 use Rattle.plain_trees.specs.Plain.{Plain, bare, graft}
 
@@ -41,7 +41,7 @@ abbrev pub empty_tree : Plain
 empty_tree = bare (0 ∷ 0 ∷ 0 ∷ 0 ∷ 0 ∷ [])
 
 abbrev pub is_empty_tree : Plain → Bool
-is_empty_tree (bare n) = list_all (λ x. x == 0) n
+is_empty_tree (bare n) = is_zero n
 is_empty_tree (graft k p c t) = false
 
 abbrev pub is_kernel_kind : Option Kind → Bool

@@ -1,6 +1,5 @@
 // Degrees of trees, and planted trees.
-ghost use Rattle.std.specs.Prelude.{◌≡◌, ◌↔◌, ◌<◌, ◌≤◌, ◌==◌, ℕ, true, length, sum};
-ghost use Rattle.std.specs.List.{list_all};
+ghost use Rattle.std.specs.Prelude.{◌≡◌, ◌↔◌, ◌<◌, ◌≤◌, ℕ, true, length, sum};
 ghost use Rattle.degree_numbers.specs.declared.types.Types.{Types};
 ghost use Rattle.degree_numbers.specs.Types.{AreTypes, type_degree};
 ghost use Rattle.plain_trees.specs.Degree.{degree_of, derivative_degree_of, edge_degree_of, node_degree_of, planted, is_kernel, IsPlanted, HasTypes};
@@ -71,15 +70,8 @@ pub fn degree(types: &Types, t: &Tree) -> Degree
     sum.plus(&node_degree(types, &t.n))
 }
 
-/// Whether all entries are 0.
-fn is_zero(m: &Multi) -> bool
-    ensures { result ≡ list_all (λ x. x == 0) m.now.entries }
-{
-    m.entries.iter().all(|x| *x == 0)
-}
-
 /// Whether this is the type of a kernel.
-fn is_kernel_type(types: &Types, kind: TypeId) -> bool
+pub fn is_kernel_type(types: &Types, kind: TypeId) -> bool
     ensures { result ≡ is_kernel types.now kind.0 }
 {
     match types.list.get(kind.0 as usize) {
@@ -94,7 +86,7 @@ pub fn is_planted(types: &Types, t: &Tree) -> bool
     ensures { result ≡ planted types.now (plain t.now) }
 {
     match t.edges.as_slice() {
-        [e] => is_kernel_type(types, e.kind) && is_zero(&t.n),
+        [e] => is_kernel_type(types, e.kind) && t.n.is_zero(),
         _ => false,
     }
 }
