@@ -3,8 +3,8 @@
 
 mod degree;
 mod degree_text;
-mod fraction;
 mod edge_text;
+mod fraction;
 mod laws;
 mod multi;
 mod name;
