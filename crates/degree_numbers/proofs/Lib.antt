@@ -1,7 +1,8 @@
 pub mod Common
 pub mod Divisors
 pub mod Kept
-pub mod Lowest
+pub mod Lengths
+pub mod LowestLemmas
 pub mod Multis
 pub mod Names
 pub mod Orders

@@ -4,6 +4,7 @@ pub mod EdgeText
 pub mod Fraction
 pub mod Multi
 pub mod Name
+pub mod Printing
 pub mod Types
 pub mod Units
 pub mod View

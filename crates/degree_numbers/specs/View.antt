@@ -3,6 +3,7 @@ use Rattle.std.specs.Option.{option_map}
 use Rattle.degree_numbers.specs.declared.part.Fraction.{Fraction as KeptFraction}
 use Rattle.degree_numbers.specs.declared.part.Part.{Part as KeptPart}
 use Rattle.degree_numbers.specs.declared.part.Parts.{Parts as KeptParts}
+use Rattle.degree_numbers.specs.declared.lowest.Lowest.{Lowest as KeptLowest}
 use Rattle.degree_numbers.specs.Fraction.{Fraction}
 use Rattle.degree_numbers.specs.DegreeText.{Part, Written, written}
 
@@ -15,3 +16,6 @@ part p = record { fraction = fraction p.fraction; has_k = p.has_k }
 -- what both parts write
 abbrev pub parts : KeptParts → Written
 parts p = written (part p.first) (option_map part p.second)
+
+abbrev pub lowest : KeptLowest → Fraction
+lowest f = record { negative = f.negative; num = f.num; den = f.den }

@@ -1,4 +1,4 @@
-use Rattle.degree_numbers.proofs.Lowest.{gcd_above}
+use Rattle.degree_numbers.proofs.LowestLemmas.{gcd_above}
 use Rattle.degree_numbers.proofs.Common.{separated}
 use Rattle.degree_numbers.proofs.units.lowest_denominator.Goals as goal
 
