@@ -40,7 +40,7 @@ pub factorials : List ℕ → ℕ
 factorials [] = 1
 factorials (x ∷ xs) = factorial x * factorials xs
 
-factorial_pos : (n : ℕ) → 0 < factorial n
+pub factorial_pos : (n : ℕ) → 0 < factorial n
 unfolding factorial
 factorial_pos zero = omega arith
 factorial_pos (suc n) = let p : 0 < suc n = omega arith in mul-pos p (factorial_pos n)
@@ -50,7 +50,7 @@ unfolding factorials
 factorials_pos [] = omega arith
 factorials_pos (x ∷ xs) = mul-pos (factorial_pos x) (factorials_pos xs)
 
-cancel : (a b c : ℕ) → 0 < c → a * c ≡ b * c → a ≡ b
+pub cancel : (a b c : ℕ) → 0 < c → a * c ≡ b * c → a ≡ b
 cancel a b c p e = sym (mul-div_cancel a p) ∙ ap (λ (n : ℕ). n / c) e ∙ mul-div_cancel b p
 
 factorial_step : (B C s m f g F : ℕ) → s * B ≡ m * C → C * (f * g) ≡ F → B * (s * f * g) ≡ m * F
@@ -222,3 +222,49 @@ ways_more s w x rest =
 pub ways_end : (s w : ℕ) → w ≤ overflow → saturated (w * multinomial_from s []) ≡ w
 unfolding multinomial_from
 ways_end s w h = omega arith
+
+-- the ends of Pascal's triangle
+pub binomial-above : (n j : ℕ) → binomial n (suc (n + j)) ≡ 0
+unfolding binomial
+binomial-above zero j = refl
+binomial-above (suc n) j =
+    let e : suc n + j ≡ suc (n + j) = omega arith in
+    let d : suc n + j ≡ n + suc j = omega arith in
+    omega (arith, ap (λ i. binomial n i) e ∙ binomial-above n j, ap (λ i. binomial n (suc i)) d ∙ binomial-above n (suc j))
+
+pub binomial-self : (n : ℕ) → binomial n n ≡ 1
+unfolding binomial
+binomial-self zero = refl
+binomial-self (suc n) = let e : n + 0 ≡ n = omega arith in omega (arith, binomial-self n, ap (λ i. binomial n (suc i)) (sym e) ∙ binomial-above n 0)
+
+-- the same with the chosen part in front
+pub binomial_factorials_front : (a b : ℕ) → binomial (a + b) a * (factorial a * factorial b) ≡ factorial (a + b)
+binomial_factorials_front a b =
+    let e : b + a ≡ a + b = omega arith in
+    ap (λ (n : ℕ). binomial n a * (factorial a * factorial b)) (sym e) ∙ binomial_factorials a b ∙ ap factorial e
+
+pub binomial_either : (a b : ℕ) → binomial (a + b) a ≡ binomial (a + b) b
+binomial_either a b = let e : b + a ≡ a + b = omega arith in ap (λ (n : ℕ). binomial n a) (sym e) ∙ binomial_symmetric a b ∙ ap (λ (n : ℕ). binomial n b) e
+
+pub binomial_pos : (a b : ℕ) → 0 < binomial (a + b) a
+binomial_pos a b = let h = factorial_pos (a + b) in let e = binomial_factorials_front a b in elim (binomial (a + b) a) as (λ n. n * (factorial a * factorial b) ≡ factorial (a + b) → 0 < n) [
+  | zero ↦ λ z. omega (arith, h, z)
+  | suc n ↦ λ z. omega arith
+] e
+
+-- one of three parts after another, in two ways
+pub trinomial : (a b c : ℕ) → binomial (a + (b + c)) a * binomial (b + c) b ≡ binomial (a + b) a * binomial (a + b + c) (a + b)
+trinomial a b c =
+    let fa = factorial a in
+    let fb = factorial b in
+    let fc = factorial c in
+    let e : a + b + c ≡ a + (b + c) = omega arith in
+    let one : binomial (a + (b + c)) a * (fa * factorial (b + c)) ≡ factorial (a + (b + c)) = binomial_factorials_front a (b + c) in
+    let two : binomial (a + (b + c)) a * fa * (binomial (b + c) b * (fb * fc)) ≡ binomial (a + (b + c)) a * fa * factorial (b + c) =
+    ap (λ (n : ℕ). binomial (a + (b + c)) a * fa * n) (binomial_factorials_front b c) in
+    let three : binomial (a + b + c) (a + b) * (factorial (a + b) * fc) ≡ factorial (a + (b + c)) = binomial_factorials_front (a + b) c ∙ ap factorial e in
+    let four : binomial (a + b + c) (a + b) * fc * (binomial (a + b) a * (fa * fb)) ≡ binomial (a + b + c) (a + b) * fc * factorial (a + b) =
+    ap (λ (n : ℕ). binomial (a + b + c) (a + b) * fc * n) (binomial_factorials_front a b) in
+    cancel (binomial (a + (b + c)) a * binomial (b + c) b) (binomial (a + b) a * binomial (a + b + c) (a + b)) (fa * (fb * fc))
+    (mul-pos (factorial_pos a) (mul-pos (factorial_pos b) (factorial_pos c)))
+    (omega (arith, one, two, three, four))

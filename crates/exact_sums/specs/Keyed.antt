@@ -10,11 +10,14 @@
 --   expanded step terms == each term replaced by the terms that `step` gives for its key, times its coefficient
 --   products factor op xs ys == each term of xs times each term of ys, and times a factor that the keys give
 --   joined_neighbours same terms == neighbours with equal keys made one term, their coefficients added as values
+--   with_term cmp t terms == terms in ascending order of their keys with one more: added to that of an equal key, where there is one
+--   collected cmp terms == the terms in ascending order of their keys, each key once, with the sum of its coefficients
 --   keys terms == the keys
 --   IsCollected cmp terms == each key stands once, the keys ascend, and each coefficient is a value that is not 0
 use Rattle.std.specs.Prelude.{◌≡◌, ◌<◌, ◌≤◌, ℕ, ◌+◌, ◌*◌, Bool, true, cond, List, [], ◌∷◌, ◌++◌, map}
 use Rattle.std.specs.List.{AllByRecursion}
 use Rattle.std.specs.List.Sorted.{IsStrictlySortedBy}
+use Rattle.std.specs.Ordering.{is_eq, is_gt}
 use Rattle.std.specs.declared.cmp.Ordering.{Ordering}
 use Rattle.exact_sums.specs.Saturating.{overflow, saturated, saturating_plus}
 
@@ -67,6 +70,14 @@ join_onto same t (u ∷ us) = cond (same u.0 t.0) (join_onto same (t.0, saturati
 abbrev pub joined_neighbours : {K : Type 0} → (K → K → Bool) → List (K × ℕ) → List (K × ℕ)
 joined_neighbours same [] = []
 joined_neighbours same (t ∷ ts) = join_onto same t ts
+
+abbrev pub with_term : {K : Type 0} → (K → K → Ordering) → K × ℕ → List (K × ℕ) → List (K × ℕ)
+with_term cmp t [] = t ∷ []
+with_term cmp t (u ∷ us) = cond (is_gt (cmp t.0 u.0)) (u ∷ with_term cmp t us) (cond (is_eq (cmp t.0 u.0)) ((u.0, t.1 + u.1) ∷ us) (t ∷ u ∷ us))
+
+abbrev pub collected : {K : Type 0} → (K → K → Ordering) → List (K × ℕ) → List (K × ℕ)
+collected cmp [] = []
+collected cmp (t ∷ ts) = with_term cmp t (collected cmp ts)
 
 abbrev pub keys : {K : Type 0} → List (K × ℕ) → List K
 keys ts = map (λ t. t.0) ts

@@ -1,0 +1,13 @@
+pub mod ByNumbers
+pub mod ByNodes
+pub mod FlatComponents
+pub mod FlatLaw
+pub mod FlatQuotients
+pub mod Images
+pub mod Multinomials
+pub mod Numbers
+pub mod RootedSums
+pub mod Rows
+pub mod Split
+pub mod Untouched
+pub mod Whole
