@@ -1,12 +1,11 @@
 -- The definition by nodes and edges, in the words of the proofs: touched nodes, components, quotient and splitting coefficient of a cutting that is read down the tree.
-use Rattle.std.proofs.Common.{◌≡◌, ℕ, ◌+◌, ◌*◌, ◌==◌, Bool, true, false, cond, not, ◌&&◌, ◌||◌, List, [], ◌∷◌, ◌++◌, map, filter, refl, sym, ap, ◌∙◌, arith}
+use Rattle.std.proofs.Common.{◌≡◌, ℕ, ◌*◌, ◌==◌, Bool, true, false, cond, not, ◌&&◌, ◌||◌, List, [], ◌∷◌, ◌++◌, map, filter, refl, ap, ◌∙◌, arith}
 use Rattle.std.specs.List.{list_all}
 use Rattle.exact_sums.specs.Sums.{product_over}
-use Rattle.plain_trees.specs.Plain.{Plain}
 use Rattle.plain_trees.specs.Multinomials.{plus_all, is_zero, multinomial_of}
 use Rattle.plain_trees.specs.Flat.{Link, tree_at}
 use Rattle.plain_trees.specs.Cutting.{Marked, Cutting, Node, node_above, root_node, nodes_of, is_touched, is_cutting, base, parts_at, lefts_at, component, components, outer_link, quotient, splitting_coefficient}
-use Rattle.tree_cuttings.specs.CutTree.{CutTree, is_cut, root_component, cut_components, contracted, cut_coefficient, taken_of}
+use Rattle.tree_cuttings.specs.CutTree.{CutTree, is_cut, root_component, cut_components, contracted, cut_coefficient}
 use Rattle.tree_cuttings.proofs.ByNumbers.{is_numbered_cut, lefts_of, numbered_component, numbered_components, outer_of, numbered_quotient, numbered_coefficient, rows_from, flat_of}
 use Rattle.tree_cuttings.proofs.FlatComponents.{numbered_component_is, numbered_components_are}
 use Rattle.tree_cuttings.proofs.FlatQuotients.{base_root, numbered_quotient_is, numbered_coefficient_is}

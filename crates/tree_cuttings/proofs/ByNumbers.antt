@@ -1,12 +1,12 @@
 -- Cuttings by numbers: words for the proofs, and the rows of a cutting that is read down the tree.
-use Rattle.std.proofs.Common.{ℕ, ◌+◌, ◌*◌, ◌==◌, Bool, true, false, cond, not, ◌&&◌, ◌||◌, List, [], ◌∷◌, ◌++◌, map, filter}
+use Rattle.std.proofs.Common.{ℕ, ◌+◌, ◌*◌, ◌==◌, Bool, cond, not, ◌&&◌, ◌||◌, List, [], ◌∷◌, ◌++◌, map, filter}
 use Rattle.std.specs.List.{list_all}
-use Rattle.exact_sums.specs.Sums.{total, counted_if, product_over}
+use Rattle.exact_sums.specs.Sums.{product_over}
 use Rattle.degree_numbers.specs.Multi.{plus_of}
 use Rattle.plain_trees.specs.Plain.{Plain}
 use Rattle.plain_trees.specs.Multinomials.{plus_all, is_zero, multinomial_of}
 use Rattle.plain_trees.specs.Flat.{Link, tree_at}
-use Rattle.plain_trees.specs.Cutting.{Marked, Cutting, is_touched, base, inner_link, cuttings, markings}
+use Rattle.plain_trees.specs.Cutting.{Marked, Cutting, is_touched, base, inner_link}
 use Rattle.tree_cuttings.specs.CutTree.{CutTree, node, edge, taken_of, left_of}
 
 abbrev pub is_numbered_cut : Bool → Cutting → Bool

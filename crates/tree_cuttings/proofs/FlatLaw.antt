@@ -1,21 +1,13 @@
 -- By numbers and down the tree: which markings are cuttings.
-use Rattle.std.proofs.Common.{◌≡◌, ℕ, ◌+◌, ◌<◌, Bool, true, false, not, ◌&&◌, ◌||◌, List, [], ◌∷◌, ◌++◌, refl, sym, ap, ◌∙◌, arith}
+use Rattle.std.proofs.Common.{◌≡◌, ℕ, ◌+◌, ◌<◌, Bool, true, false, not, ◌&&◌, ◌||◌, List, [], ◌∷◌, ◌++◌, refl, ap, ◌∙◌, arith}
 use Rattle.std.specs.List.{list_all}
 use Rattle.std.proofs.lemmas.List.Folds.{list_all-append}
-use Rattle.plain_trees.specs.Plain.{Plain}
 use Rattle.plain_trees.specs.Multinomials.{is_zero}
-use Rattle.exact_sums.specs.Sums.{total, counted_if}
-use Rattle.tree_cuttings.specs.CutTree.{CutTree, node, edge, leaves, fits, is_cut, taken_of, cut_components, contracted, cut_coefficient}
-use Rattle.tree_cuttings.specs.CutTrees.{cut_markings, cut_sum}
-use Rattle.plain_trees.specs.Cutting.{Marked, Cutting, is_touched, markings}
-use Rattle.tree_cuttings.proofs.ByNumbers.{is_numbered_cut, numbered_components, numbered_quotient, numbered_coefficient, cut_size, rows_from, flat_of}
-use Rattle.tree_cuttings.specs.Entries.{forest_of, closed_from, entries}
-use Rattle.exact_sums.proofs.SumLaws.{total-filter, total_ext}
-use Rattle.tree_cuttings.proofs.Images.{cut_sum_is_entries}
-use Rattle.tree_cuttings.proofs.Numbers.{markings_are}
+use Rattle.tree_cuttings.specs.CutTree.{CutTree, node, edge, leaves, fits, is_cut, taken_of}
+use Rattle.plain_trees.specs.Cutting.{Marked, is_touched}
+use Rattle.tree_cuttings.proofs.ByNumbers.{is_numbered_cut, cut_size, rows_from, flat_of}
 use Rattle.tree_cuttings.proofs.Rows.{any_own}
-use Rattle.tree_cuttings.proofs.FlatComponents.{IsAround, first_row, around_child, around_rest, touched_in, around_all, numbered_components_are}
-use Rattle.tree_cuttings.proofs.FlatQuotients.{numbered_quotient_is, numbered_coefficient_is}
+use Rattle.tree_cuttings.proofs.FlatComponents.{IsAround, first_row, around_child, around_rest, touched_in, around_all}
 
 shuffled : (v u z a b y : Bool) → ((v && (u || z)) && (a && b)) && y ≡ (z || u) && ((a && v) && (b && y))
 shuffled true true true true b y = refl

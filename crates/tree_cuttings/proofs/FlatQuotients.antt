@@ -213,19 +213,19 @@ lefts_in x before after r next s k p c m low around q classed =
     ∙ ap (λ ls. left_of c ∷ ls) own
 
 -- edges that do not begin at a node
-abbrev LinkApart : ℕ → List Link → Type 0
+abbrev pub LinkApart : ℕ → List Link → Type 0
 LinkApart j [] = Unit {0}
 LinkApart j (e ∷ es) = ((e.parent == j) ≡ false) × LinkApart j es
 
-link_apart-append : (j : ℕ) (xs ys : List Link) → LinkApart j xs → LinkApart j ys → LinkApart j (xs ++ ys)
+pub link_apart-append : (j : ℕ) (xs ys : List Link) → LinkApart j xs → LinkApart j ys → LinkApart j (xs ++ ys)
 link_apart-append j [] ys a b = b
 link_apart-append j (x ∷ xs) ys a b = (a.0, link_apart-append j xs ys a.1 b)
 
-link_skip : (j : ℕ) (n : List ℕ) (xs ys : List Link) → LinkApart j xs → tree_at j n (xs ++ ys) ≡ tree_at j n ys
+pub link_skip : (j : ℕ) (n : List ℕ) (xs ys : List Link) → LinkApart j xs → tree_at j n (xs ++ ys) ≡ tree_at j n ys
 link_skip j n [] ys a = refl
 link_skip j n (x ∷ xs) ys a = rw a.0 (link_skip j n xs ys a.1)
 
-link_none : (j : ℕ) (n : List ℕ) (ys : List Link) → LinkApart j ys → tree_at j n ys ≡ bare n
+pub link_none : (j : ℕ) (n : List ℕ) (ys : List Link) → LinkApart j ys → tree_at j n ys ≡ bare n
 link_none j n [] a = refl
 link_none j n (y ∷ ys) a = rw a.0 (link_none j n ys a.1)
 
@@ -254,7 +254,7 @@ links_apart x before after r next q j (edge b s k p c m) low around classed h d 
     elim b as (λ d. LinkApart j (map (outer_of x) (cond (not d) (row ∷ filter (λ e. not e.inside) (rows_c ++ rows_m)) (filter (λ e. not e.inside) (rows_c ++ rows_m))))) [ true ↦ inner | false ↦ (first, inner) ]
 
 -- the edges of the first tree in front of those of the second
-abbrev onto : Plain → Plain → Plain
+abbrev pub onto : Plain → Plain → Plain
 onto (bare n) u = u
 onto (graft k p c t) u = graft k p c (onto t u)
 
@@ -266,7 +266,7 @@ onto-joined : (s t u : Plain) → onto (joined s t) u ≡ onto s (onto t u)
 onto-joined (bare n) t u = onto-raised n t u
 onto-joined (graft k p c s) t u = ap (graft k p c) (onto-joined s t u)
 
-onto-self : (t : Plain) → onto t (bare (root_of t)) ≡ t
+pub onto-self : (t : Plain) → onto t (bare (root_of t)) ≡ t
 onto-self (bare n) = refl
 onto-self (graft k p c t) = ap (graft k p c) (onto-self t)
 

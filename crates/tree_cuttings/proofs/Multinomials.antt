@@ -1,9 +1,9 @@
 -- Sums, binomials and multinomials of multiindices.
-use Rattle.std.proofs.Common.{◌≡◌, ℕ, zero, suc, ◌+◌, ◌*◌, ◌<◌, List, [], ◌∷◌, ◌++◌, refl, sym, ap, ◌∙◌, arith}
+use Rattle.std.proofs.Common.{◌≡◌, ℕ, ◌+◌, ◌*◌, List, [], ◌∷◌, ◌++◌, refl, sym, ap, ◌∙◌, arith}
 use Rattle.degree_numbers.specs.Multi.{plus_of}
 use Rattle.plain_trees.specs.Multinomials.{plus_all, choose, multinomial_of}
 use Rattle.exact_sums.specs.Binomials.{binomial}
-use Rattle.exact_sums.proofs.MultinomialLaws.{binomial-self, binomial_either, binomial_pos, trinomial}
+use Rattle.exact_sums.proofs.MultinomialLaws.{binomial-self, binomial_either, trinomial}
 
 pub plus_nil : (xs : List ℕ) → plus_of xs [] ≡ xs
 plus_nil [] = refl

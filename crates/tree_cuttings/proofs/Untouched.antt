@@ -4,7 +4,7 @@ use Rattle.std.specs.List.{list_all}
 use Rattle.exact_sums.specs.Binomials.{binomial}
 use Rattle.exact_sums.specs.Sums.{product_over}
 use Rattle.plain_trees.specs.Multinomials.{plus_all, is_zero, choose, multinomial_of}
-use Rattle.plain_trees.specs.Cutting.{Marked, Cutting, Node, nodes_of, node_above, is_touched, is_cutting, parts_at}
+use Rattle.plain_trees.specs.Cutting.{Marked, Cutting, Node, nodes_of, is_touched, is_cutting, parts_at}
 
 pub and_first : (a b : Bool) → a && b ≡ true → a ≡ true
 and_first true b h = refl

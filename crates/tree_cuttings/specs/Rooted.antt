@@ -4,11 +4,11 @@
 --   rooted_sum w t f == the sum of f over these cuttings of t
 --   whole_entry c == what a tree that stays whole gives
 --   rooted_entries w t == what these cuttings of t give, by a recursion down the tree
-use Rattle.std.specs.Prelude.{ℕ, ◌+◌, Bool, true, false, not, ◌&&◌, ◌||◌, ◌==◌, List, [], ◌++◌, map, flat_map, filter}
+use Rattle.std.specs.Prelude.{ℕ, ◌+◌, Bool, true, false, not, ◌&&◌, ◌||◌, List, [], ◌++◌, map, flat_map}
 use Rattle.plain_trees.specs.Plain.{Plain, bare, graft}
 use Rattle.degree_numbers.specs.Multi.{minus_of}
 use Rattle.plain_trees.specs.Multinomials.{below, zeros, below_all}
-use Rattle.exact_sums.specs.Sums.{total, counted_if}
+use Rattle.exact_sums.specs.Sums.{total}
 use Rattle.tree_cuttings.specs.CutTree.{CutTree, node, edge}
 use Rattle.tree_cuttings.specs.Entries.{Entry, with_inside, with_outside, pairs}
 

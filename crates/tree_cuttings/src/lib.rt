@@ -1,4 +1,9 @@
-//! Cuttings of decorated trees: the recursions down the tree that give the sums over all cuttings.
+//! Cuttings of decorated trees read down the tree, and the laws that join them to the definition by numbers.
 #![tactic(auto)]
 
-pub mod laws;
+mod laws;
+
+pub use laws::{
+    flat_form_is_the_tree, same_sums_by_numbers_and_down_the_tree,
+    split_along_the_edges_of_the_root, sums_by_recursion,
+};
