@@ -23,9 +23,9 @@
 use Rattle.std.specs.Prelude.{ℕ, ◌+◌, ◌*◌, ◌==◌, Bool, true, false, cond, not, ◌&&◌, ◌||◌, List, [], ◌∷◌, ◌++◌, map, flat_map, filter}
 use Rattle.std.specs.List.{list_any, list_all}
 use Rattle.exact_sums.specs.Sums.{total, product_over, choices}
-use Rattle.degree_numbers.specs.Multi.{plus_of, minus_of}
+use Rattle.degree_numbers.specs.Multi.{is_zero, plus_of, minus_of}
 use Rattle.plain_trees.specs.Plain.{Plain, root_of}
-use Rattle.plain_trees.specs.Multinomials.{plus_all, is_zero, below, below_all, multinomial_of}
+use Rattle.plain_trees.specs.Multinomials.{plus_all, below, below_all, multinomial_of}
 use Rattle.plain_trees.specs.Flat.{Link, links_of, tree_at}
 
 pub record Marked : Type 0 where

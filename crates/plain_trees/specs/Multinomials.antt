@@ -1,22 +1,17 @@
 -- Sums, binomials and multinomials of multiindices.
 --   plus_all ms == the sum of a list of multiindices, entry by entry
---   is_zero m == all entries of m are 0
 --   zeros m == the multiindex with as many entries, all 0
 --   below m == the list of all multiindices that are at most m, entry by entry
 --   below_all w m == the list of all multiindices with as many entries as m, each at most w
 --   choose n k == the binomial of multiindices: the product over the entries of the binomials
 --   multinomial_of ms == the multinomial of multiindices: the product over the entries of the multinomials
-use Rattle.std.specs.Prelude.{ℕ, zero, suc, ◌*◌, ◌==◌, ◌&&◌, Bool, true, List, [], ◌∷◌, map, flat_map}
+use Rattle.std.specs.Prelude.{ℕ, zero, suc, ◌*◌, List, [], ◌∷◌, map, flat_map}
 use Rattle.exact_sums.specs.Binomials.{binomial}
 use Rattle.degree_numbers.specs.Multi.{plus_of}
 
 abbrev pub plus_all : List (List ℕ) → List ℕ
 plus_all [] = []
 plus_all (m ∷ ms) = plus_of m (plus_all ms)
-
-abbrev pub is_zero : List ℕ → Bool
-is_zero [] = true
-is_zero (x ∷ xs) = (x == 0) && is_zero xs
 
 abbrev pub zeros : List ℕ → List ℕ
 zeros = map (λ x. 0)

@@ -2,7 +2,8 @@
 use Rattle.std.proofs.Common.{◌≡◌, ℕ, ◌*◌, ◌==◌, Bool, true, false, cond, not, ◌&&◌, ◌||◌, List, [], ◌∷◌, ◌++◌, map, filter, refl, ap, ◌∙◌, arith}
 use Rattle.std.specs.List.{list_all}
 use Rattle.exact_sums.specs.Sums.{product_over}
-use Rattle.plain_trees.specs.Multinomials.{plus_all, is_zero, multinomial_of}
+use Rattle.degree_numbers.specs.Multi.{is_zero}
+use Rattle.plain_trees.specs.Multinomials.{plus_all, multinomial_of}
 use Rattle.plain_trees.specs.Flat.{Link, tree_at}
 use Rattle.plain_trees.specs.Cutting.{Marked, Cutting, Node, node_above, root_node, nodes_of, is_touched, is_cutting, base, parts_at, lefts_at, component, components, outer_link, quotient, splitting_coefficient}
 use Rattle.tree_cuttings.specs.CutTree.{CutTree, is_cut, root_component, cut_components, contracted, cut_coefficient}

@@ -2,9 +2,9 @@
 use Rattle.std.proofs.Common.{ℕ, ◌+◌, ◌*◌, ◌==◌, Bool, cond, not, ◌&&◌, ◌||◌, List, [], ◌∷◌, ◌++◌, map, filter}
 use Rattle.std.specs.List.{list_all}
 use Rattle.exact_sums.specs.Sums.{product_over}
-use Rattle.degree_numbers.specs.Multi.{plus_of}
+use Rattle.degree_numbers.specs.Multi.{is_zero, plus_of}
 use Rattle.plain_trees.specs.Plain.{Plain}
-use Rattle.plain_trees.specs.Multinomials.{plus_all, is_zero, multinomial_of}
+use Rattle.plain_trees.specs.Multinomials.{plus_all, multinomial_of}
 use Rattle.plain_trees.specs.Flat.{Link, tree_at}
 use Rattle.plain_trees.specs.Cutting.{Marked, Cutting, is_touched, base, inner_link}
 use Rattle.tree_cuttings.specs.CutTree.{CutTree, node, edge, taken_of, left_of}

@@ -2,7 +2,7 @@
 use Rattle.std.proofs.Common.{◌≡◌, ℕ, ◌+◌, ◌<◌, Bool, true, false, not, ◌&&◌, ◌||◌, List, [], ◌∷◌, ◌++◌, refl, ap, ◌∙◌, arith}
 use Rattle.std.specs.List.{list_all}
 use Rattle.std.proofs.lemmas.List.Folds.{list_all-append}
-use Rattle.plain_trees.specs.Multinomials.{is_zero}
+use Rattle.degree_numbers.specs.Multi.{is_zero}
 use Rattle.tree_cuttings.specs.CutTree.{CutTree, node, edge, leaves, fits, is_cut, taken_of}
 use Rattle.plain_trees.specs.Cutting.{Marked, is_touched}
 use Rattle.tree_cuttings.proofs.ByNumbers.{is_numbered_cut, cut_size, rows_from, flat_of}

@@ -1,8 +1,8 @@
 -- The cut_trees of a tree, told apart at the first edge of the root.
 use Rattle.std.proofs.Common.{◌≡◌, ℕ, zero, suc, ◌+◌, ◌-◌, Bool, true, false, not, ◌&&◌, ◌||◌, ◌==◌, List, [], ◌∷◌, map, flat_map, refl, ap, ◌∙◌, arith}
 use Rattle.plain_trees.specs.Plain.{Plain, bare, graft}
-use Rattle.degree_numbers.specs.Multi.{minus_of}
-use Rattle.plain_trees.specs.Multinomials.{below, zeros, is_zero, down_from, below_all}
+use Rattle.degree_numbers.specs.Multi.{is_zero, minus_of}
+use Rattle.plain_trees.specs.Multinomials.{below, zeros, down_from, below_all}
 use Rattle.exact_sums.specs.Sums.{total, counted_if}
 use Rattle.tree_cuttings.specs.CutTree.{CutTree, node, edge, leaves, fits, is_cut}
 use Rattle.tree_cuttings.specs.CutTrees.{cut_markings, cut_trees}

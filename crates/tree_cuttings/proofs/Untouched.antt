@@ -3,7 +3,8 @@ use Rattle.std.proofs.Common.{◌≡◌, ℕ, zero, suc, ◌*◌, ◌==◌, Bool
 use Rattle.std.specs.List.{list_all}
 use Rattle.exact_sums.specs.Binomials.{binomial}
 use Rattle.exact_sums.specs.Sums.{product_over}
-use Rattle.plain_trees.specs.Multinomials.{plus_all, is_zero, choose, multinomial_of}
+use Rattle.degree_numbers.specs.Multi.{is_zero}
+use Rattle.plain_trees.specs.Multinomials.{plus_all, choose, multinomial_of}
 use Rattle.plain_trees.specs.Cutting.{Marked, Cutting, Node, nodes_of, is_touched, is_cutting, parts_at}
 
 pub and_first : (a b : Bool) → a && b ≡ true → a ≡ true

@@ -17,8 +17,8 @@
 use Rattle.std.specs.Prelude.{ℕ, ◌*◌, Bool, true, false, cond, not, ◌&&◌, ◌||◌, List, [], ◌∷◌, ◌++◌}
 use Rattle.plain_trees.specs.Plain.{Plain, bare, graft}
 use Rattle.tree_cuttings.specs.Roots.{raised, joined}
-use Rattle.degree_numbers.specs.Multi.{plus_of}
-use Rattle.plain_trees.specs.Multinomials.{is_zero, multinomial_of}
+use Rattle.degree_numbers.specs.Multi.{is_zero, plus_of}
+use Rattle.plain_trees.specs.Multinomials.{multinomial_of}
 
 pub data CutTree : Type 0 where
   node : (taken : List ℕ) → (left : List ℕ) → CutTree
