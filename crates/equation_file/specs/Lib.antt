@@ -1,3 +1,6 @@
-pub mod EdgeTypes
 pub mod Accepted
 pub mod Collect
+pub mod EdgeTypes
+pub mod FirstOf
+pub mod Names
+pub mod Terms

@@ -4,7 +4,9 @@
 mod collect;
 mod edge_types;
 mod equation;
+mod names;
 mod product;
+mod terms;
 
 pub use edge_types::{edge_type_laws, edge_type_order};
 pub use equation::{Equation, RightTerm, Unknown};
