@@ -21,12 +21,14 @@ mod units;
 mod written;
 
 pub use degree::{Degree, Units};
+pub use degree_text::degree_parts;
 pub use edge_text::{put_edge_type, put_multi};
 pub use laws::{degrees_are_ordered, multis_are_ordered};
 pub use multi::Multi;
 pub use name::Name;
+pub use part::{Fraction, Part, Parts};
 pub use print::print_degree;
-pub use reading::read_degree;
+pub use reading::{first_large, fraction_with, read_degree};
 pub use refusal::DegreeRefusal;
 pub use small_text::SmallText;
 pub use types::{Kind, TypeEntry, TypeId, Types};

@@ -38,8 +38,8 @@ pub fn read_degree(text: &[u8]) -> Result<WrittenDegree, DegreeRefusal>
     })
 }
 
-// The fraction of the part with `k`, or of the plain one, and zero where it is not written.
-fn fraction_with(has_k: bool, parts: Parts) -> Fraction
+/// The fraction of the part with `k`, or of the plain one, and zero where it is not written.
+pub fn fraction_with(has_k: bool, parts: Parts) -> Fraction
     ensures value { fraction result ≡ fraction_with has_k (part parts.first) (option_map part parts.second) }
     ensures small { first_large (part parts.first) (option_map part parts.second) ≡ None → (result.num ≤ 1000000) × (result.den ≤ 1000000) }
 {
@@ -56,8 +56,8 @@ fn fraction_with(has_k: bool, parts: Parts) -> Fraction
     }
 }
 
-// The first number past the largest.
-fn first_large(parts: Parts) -> Option<u64>
+/// The first written number past 1,000,000.
+pub fn first_large(parts: Parts) -> Option<u64>
     ensures value { result ≡ first_large (part parts.first) (option_map part parts.second) }
     ensures fits { IfSome result (λ n. n < 2 ^ 63) }
 {
