@@ -1,1 +1,2 @@
 pub mod EdgeTypeLaws
+pub mod LeastCommon

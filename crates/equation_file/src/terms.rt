@@ -7,8 +7,11 @@ ghost use Rattle.equation_file.specs.Terms.{factor_number, term_number, power_of
 use right_side_text::{WrittenFactor, WrittenTerm};
 
 const MOST: u64 = i64::MAX as u64;
+
 const LARGEST_NUMBER: u64 = 1_000_000;
+
 const MOST_FACTORS: u64 = 24;
+
 const LARGEST_ENTRY: u64 = 8;
 
 /// A number that passes a limit.

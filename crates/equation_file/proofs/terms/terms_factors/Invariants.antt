@@ -1,6 +1,6 @@
 use Rattle.std.proofs.Common.{◌≡◌, drop}
-use Rattle.equation_file.specs.FirstOf.{over, first_of}
-use Rattle.equation_file.specs.Terms.{factor_number, term_number, term_factors, factor_derivative, term_derivative}
+use Rattle.equation_file.specs.FirstOf.{first_of}
+use Rattle.equation_file.specs.Terms.{term_factors}
 use Rattle.equation_file.proofs.terms.terms_factors.Given as goal
 
 -- the first of all is the first of those that are left
