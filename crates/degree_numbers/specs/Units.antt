@@ -2,6 +2,7 @@
 --   fraction_of z b == the fraction z over b
 --   fractions ds == the fractions of the degrees, one after the other
 --   AreUnits fs den == den is the least common denominator of fs, and at most 1,000,000
+--   IsWholeIn d den == the degree d is whole in units of one over den
 --   IsPast fs == each common denominator of fs passes 1,000,000
 --   IsJoined n a b == n is the least common multiple of a and b, or `most` where that is not smaller
 --   Separates b num den == b divides just the numbers by which num over den becomes whole
@@ -22,6 +23,10 @@ pub record AreUnits (fs : List Fraction) (den : ℤ) : Type 0 where
   pub above : pos 0 <ℤ den
   pub fits : den ≤ℤ pos 1000000
   pub least : IsLeastCommon (unsigned_abs den) fs
+
+pub record IsWholeIn (d : WrittenDegree) (den : ℤ) : Type 0 where
+  pub a : unsigned_abs d.a_den ∣ unsigned_abs den
+  pub b : unsigned_abs d.b_den ∣ unsigned_abs den
 
 abbrev pub IsPast : List Fraction → Type 0
 IsPast fs = (x : ℕ) → 0 < x → ClearsAll x fs → 1000000 < x

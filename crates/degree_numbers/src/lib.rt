@@ -16,6 +16,8 @@ mod reduced;
 mod refusal;
 mod scaled;
 mod small_text;
+#[cfg(test)]
+mod tests;
 mod types;
 mod units;
 mod written;

@@ -1,9 +1,10 @@
 // Common denominators of degrees.
 ghost use Rattle.std.specs.Prelude.{◌≡◌, ◌≤◌, ◌<◌, ◌/◌, ◌++◌, List, [], ◌∷◌, Bool, ℕ, pos, unsigned_abs, ◌*ℤ◌, ◌<ℤ◌, ◌≤ℤ◌, IfOk, IfErr};
+ghost use Rattle.std.specs.List.{AllByRecursion};
 ghost use Rattle.std.specs.Int.{IsGcd, ◌∣◌};
 ghost use Rattle.degree_numbers.specs.Fraction.{Fraction as Plain, IsCommon};
 ghost use Rattle.degree_numbers.specs.declared.refusal.DegreeRefusal.TheVariants.{DenominatorTooLarge};
-ghost use Rattle.degree_numbers.specs.Units.{IsJoined, Separates, fraction_of, fractions, AreUnits, IsPast};
+ghost use Rattle.degree_numbers.specs.Units.{IsJoined, Separates, fraction_of, fractions, AreUnits, IsWholeIn, IsPast};
 
 use crate::degree::{Degree, Units};
 use crate::fraction::gcd;
@@ -68,6 +69,7 @@ pub fn common_denominator(list: &[WrittenDegree]) -> u64
 /// The least common denominator of the degrees. Refusal: `DenominatorTooLarge` exactly where it passes 1,000,000.
 pub fn join_units(list: &[WrittenDegree]) -> Result<Units, DegreeRefusal>
     ensures ok { IfOk result (λ u. AreUnits (fractions list.now) u.den) }
+    ensures whole { IfOk result (λ u. AllByRecursion (λ d. IsWholeIn d u.den) list.now) }
     ensures err { IfErr result (λ e. (e ≡ DenominatorTooLarge) × IsPast (fractions list.now)) }
 {
     let common = common_denominator(list);
@@ -104,8 +106,7 @@ fn in_unit(num: i64, den: i64, unit: i64) -> i64
 pub fn in_units(w: &WrittenDegree, units: Units) -> Degree
     requires above { pos 0 <ℤ units.den }
     requires fits { units.den ≤ℤ pos 1000000 }
-    requires a_whole { unsigned_abs w.now.a_den ∣ unsigned_abs units.den }
-    requires b_whole { unsigned_abs w.now.b_den ∣ unsigned_abs units.den }
+    requires whole { IsWholeIn w.now units.den }
     ensures a { result.a *ℤ w.now.a_den ≡ w.now.a_num *ℤ units.den }
     ensures b { result.b *ℤ w.now.b_den ≡ w.now.b_num *ℤ units.den }
 {
