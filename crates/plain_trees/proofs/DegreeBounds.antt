@@ -1,5 +1,5 @@
 -- The degree of a small tree is small.
-use Rattle.std.proofs.Common.{◌≡◌, ℕ, ◌+◌, ◌*◌, ◌<◌, ◌≤◌, ℤ, ◌+ℤ◌, List, [], ◌∷◌, sum, arith, map, FitsSigned, w64, length, get_or, refl, drop}
+use Rattle.std.proofs.Common.{◌≡◌, ℕ, ◌+◌, ◌*◌, ◌<◌, ◌≤◌, ℤ, ◌+ℤ◌, List, [], ◌∷◌, sum, arith, map, FitsSigned, w64, unsigned_abs, length, get_or, refl, drop}
 use Rattle.std.specs.List.{AllByRecursion}
 use Rattle.std.proofs.lemmas.Int.{ints}
 use Rattle.std.proofs.lemmas.Grind.{common_steps}
@@ -14,11 +14,12 @@ use Rattle.degree_numbers.proofs.ScaledSizes.{scaled_size_most}
 use Rattle.degree_numbers.proofs.TypeBounds.{scaling_within, type_a_within, type_b_within}
 use Rattle.plain_trees.specs.declared.tree.Edge.{Edge, out-Edge, fold_out-Edge}
 use Rattle.plain_trees.specs.Plain.{Plain, bare, graft, edge_count_of, decoration_sum_of, IsSmall}
-use Rattle.plain_trees.specs.Degree.{derivative_degree_of, edge_degree_of, degree_of}
+use Rattle.std.proofs.lemmas.Nat.{mul-le}
+use Rattle.plain_trees.specs.Degree.{size_in_units, derivative_degree_of, edge_degree_of, degree_of}
 use Rattle.plain_trees.specs.View.{Labelled, labelled_at, plain_at, grafted, labelled, plain}
 
 abbrev pub a_bound : Plain → ℕ
-a_bound t = edge_count_of t * 20000000 + decoration_sum_of t * 10
+a_bound t = edge_count_of t * 20000000 + decoration_sum_of t * 10000000
 
 abbrev pub b_bound : Plain → ℕ
 b_bound t = edge_count_of t * 20000000
@@ -26,8 +27,21 @@ b_bound t = edge_count_of t * 20000000
 pub scaling_most : (ty : Types) → AreTypes ty → AllByRecursion (λ s. s ≤ 10) ty.scaling
 scaling_most = scaling_within
 
-sized : (ty : Types) (m : List ℕ) → AreTypes ty → scaled_size ty.scaling m ≤ 10 * sum m
-sized ty m h = scaled_size_most ty.scaling m (scaling_within ty h)
+pub units_most : (ty : Types) → AreTypes ty → unsigned_abs ty.units.den ≤ 1000000
+units_most ty h = let most = h.den_most in let above = h.den_above in omega (arith, ints)
+
+sized : (ty : Types) (m : List ℕ) → AreTypes ty → size_in_units ty m ≤ 10000000 * sum m
+sized ty m h =
+    let s = scaled_size_most ty.scaling m (scaling_within ty h) in
+    let product = mul-le (unsigned_abs ty.units.den) (scaled_size ty.scaling m) 1000000 (10 * sum m) (units_most ty h) s in
+    omega (arith, product)
+
+-- the product of the common denominator and a scaled size that is at most this
+pub product_most : (ty : Types) (size n : ℕ) → AreTypes ty → size ≤ 10 * n → n ≤ 4096 → unsigned_abs ty.units.den * size ≤ 40960000000
+product_most ty size n h s b = let product = mul-le (unsigned_abs ty.units.den) size 1000000 40960 (units_most ty h) (omega (arith, s, b)) in omega (arith, product)
+
+pub size_most : (ty : Types) (m : List ℕ) → AreTypes ty → sum m ≤ 4096 → size_in_units ty m ≤ 40960000000
+size_most ty m h s = let w = sized ty m h in omega (arith, w)
 
 pub a_within : (ty : Types) (t : Plain) → AreTypes ty → IsWithin (degree_of ty t).a (a_bound t)
 a_within ty (bare n) h = let w = sized ty n h in record { low = omega (arith, ints); high = omega (arith, ints) }
@@ -56,7 +70,7 @@ type_degree_at ty k d h = let there = slice_get-get_or ty.list k d h in rw there
 
 -- more than the parts of any degree of a small tree
 abbrev pub limit : ℕ
-limit = 1000000000
+limit = 100000000000
 
 pub small_a : (ty : Types) (t : Plain) → AreTypes ty → IsSmall t → IsWithin (degree_of ty t).a limit
 small_a ty t h s = let w = a_within ty t h in let e = s.edges in let d = s.decorations in record { low = omega (arith, ints); high = omega (arith, ints) }

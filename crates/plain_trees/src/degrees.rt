@@ -1,8 +1,8 @@
 // Degrees of trees, and planted trees.
-ghost use Rattle.std.specs.Prelude.{◌≡◌, ◌↔◌, ◌<◌, ◌≤◌, ℕ, true, length, sum};
+ghost use Rattle.std.specs.Prelude.{◌≡◌, ◌↔◌, ◌<◌, ◌≤◌, ℕ, pos, true, length, sum};
 ghost use Rattle.degree_numbers.specs.declared.types.Types.{Types};
 ghost use Rattle.degree_numbers.specs.Types.{AreTypes, type_degree};
-ghost use Rattle.plain_trees.specs.Degree.{degree_of, derivative_degree_of, edge_degree_of, node_degree_of, planted, is_kernel, IsPlanted, HasTypes};
+ghost use Rattle.plain_trees.specs.Degree.{degree_of, size_in_units, derivative_degree_of, edge_degree_of, node_degree_of, planted, is_kernel, IsPlanted, HasTypes};
 ghost use Rattle.plain_trees.specs.Canon.{IsSame};
 ghost use Rattle.plain_trees.specs.Plain.{Plain, IsSmall};
 ghost use Rattle.plain_trees.specs.View.{plain};
@@ -19,15 +19,25 @@ fn type_degree_of(types: &Types, kind: TypeId) -> Degree
     types.list.as_slice()[kind.0 as usize].degree
 }
 
+/// The scaled size of a multiindex in the units of the degrees.
+#[tactic(auto, using(crate::proofs::DegreeBounds::scaling_most, crate::proofs::DegreeBounds::size_most, crate::proofs::DegreeBounds::product_most))]
+fn in_units(types: &Types, m: &Multi) -> i64
+    requires types { AreTypes types.now }
+    requires small { sum m.now.entries ≤ 4096 }
+    ensures { result ≡ pos (size_in_units types.now m.now.entries) }
+{
+    (types.units.den.unsigned_abs() * m.scaled_size(&types.scaling)) as i64
+}
+
 /// What the derivative decoration of an edge adds to its degree.
-#[tactic(auto, using(crate::proofs::DegreeBounds::scaling_most))]
+#[tactic(auto, using(crate::proofs::DegreeBounds::size_most))]
 fn derivative_degree(types: &Types, p: &Multi) -> Degree
     requires types { AreTypes types.now }
     requires small { sum p.now.entries ≤ 4096 }
     ensures { result ≡ derivative_degree_of types.now p.now.entries }
 {
     Degree {
-        a: -(p.scaled_size(&types.scaling) as i64),
+        a: -in_units(types, p),
         b: 0,
     }
 }
@@ -44,14 +54,13 @@ pub fn edge_degree(types: &Types, kind: TypeId, p: &Multi) -> Degree
 }
 
 /// The degree of a node: the scaled size of its decoration.
-#[tactic(auto, using(crate::proofs::DegreeBounds::scaling_most))]
 pub fn node_degree(types: &Types, n: &Multi) -> Degree
     requires types { AreTypes types.now }
     requires small { sum n.now.entries ≤ 4096 }
     ensures { result ≡ node_degree_of types.now n.now.entries }
 {
     Degree {
-        a: n.scaled_size(&types.scaling) as i64,
+        a: in_units(types, n),
         b: 0,
     }
 }
