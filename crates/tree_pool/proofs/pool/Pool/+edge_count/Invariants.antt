@@ -1,0 +1,10 @@
+use Rattle.std.proofs.Common.{◌≡◌, ◌+◌, [], drop}
+use Rattle.plain_trees.specs.Plain.{edge_count_of}
+use Rattle.tree_pool.specs.Content.{tree_at, tree_over}
+use Rattle.tree_pool.proofs.pool.Pool.+edge_count.Given as goal
+
+abbrev pub decreases-edge_count : goal.decreases-edge_count
+decreases-edge_count l = l.id.0
+
+abbrev pub invariant-loop-e : goal.invariant-loop-e
+invariant-loop-e l = l.count + edge_count_of (tree_over l.self.trees [] (drop l.e-index l.edges)) ≡ edge_count_of (tree_at l.self l.fn.id.0)

@@ -1,0 +1,20 @@
+use Rattle.std.proofs.Common.{◌∙◌, sym, ap, length}
+use Rattle.tree_pool.proofs.Nodes.{tree_there, pool_pushed, pushed_holds, pushed_grown}
+use Rattle.tree_pool.proofs.pool.Pool.intern_sorted.Goals as goal
+
+pub returns-in-Some-clause-tree : goal.returns-in-Some-clause-tree
+returns-in-Some-clause-tree c =
+    tree_there c.self.inside.nodes.items c.args.self.now c.self.inside.types c.in-Some.i c.args.n.entries c.args.edges.now c.self.view_is c.self.invariant (rw c.as_slice.ensures.value at c.in-Some.ensures)
+
+pub invariant_of-self-2 : goal.invariant_of-self-2
+invariant_of-self-2 c =
+    pool_pushed c.self.inside.nodes.items c.push_node.new.nodes.items c.args.self.now c.self.inside.types c.args.n.entries c.args.edges.now c.self.view_is c.self.invariant c.requires.known
+    (rw c.as_slice.ensures.value at c.in_default.ensures) c.in_ok-push_node.ensures.ok c.requires.kept
+
+pub returns-clause-tree : goal.returns-clause-tree
+returns-clause-tree c =
+    pushed_holds c.self.inside.nodes.items c.push_node.new.nodes.items c.args.self.now c.self.inside.types c.args.n.entries c.args.edges.now c.len-id.result c.self.view_is c.in_ok-push_node.ensures.ok
+    (c.len-id.ensures ∙ sym c.as_slice.ensures.len ∙ ap length c.as_slice.ensures.value)
+
+pub returns-clause-grown : goal.returns-clause-grown
+returns-clause-grown c = pushed_grown c.self.inside.nodes.items c.push_node.new.nodes.items c.args.self.now c.self.inside.types c.args.n.entries c.args.edges.now c.self.view_is c.in_ok-push_node.ensures.ok
