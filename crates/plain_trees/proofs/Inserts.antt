@@ -5,7 +5,7 @@ use Rattle.std.specs.Ordering.{is_gt}
 use Rattle.std.proofs.lemmas.Grind.{common_steps}
 use Rattle.std.proofs.lemmas.List.{map-append, take-map, drop-map, length-map}
 use Rattle.std.proofs.lemmas.List.Sums.{prefix_len-le-length}
-use Rattle.plain_trees.specs.Plain.{Plain, graft, edge_count_of, decoration_sum_of}
+use Rattle.plain_trees.specs.Plain.{Plain, graft, edge_count_of, decoration_sum_of, IsSmall}
 use Rattle.plain_trees.specs.View.{Labelled, plain, grafted, labelled, edge_order_of}
 use Rattle.plain_trees.specs.declared.tree.Edge.{Edge}
 use Rattle.plain_trees.specs.declared.tree.Tree.{Tree, out-Tree}
@@ -94,3 +94,9 @@ pub whole : (t : Tree) (items : List Edge) (i : ℕ) (edges : List Edge) → ite
     grafted (out-Tree t).n.entries (map labelled edges) ≡ canon (grafted (out-Tree t).n.entries (map labelled (drop i items))) →
     grafted (out-Tree t).n.entries (map labelled edges) ≡ canon (plain t)
 whole t items i edges h none inv = rw (none, h, ← plain_out t) at inv
+
+pub canon_small : (t : Plain) → IsSmall t → IsSmall (canon t)
+canon_small t h =
+    let e = h.edges in
+    let d = h.decorations in
+    record { edges = omega (arith, e, canon_count t); decorations = omega (arith, d, canon_sum t) }

@@ -5,12 +5,12 @@
 --   canon t == t with the edges of each node sorted, those above first
 --   IsCanonical t == at each node each edge is at most the next one
 --   IsSame s t == exchanges of neighbouring edges lead from s to t: the two are one tree, drawn in two ways
-use Rattle.std.specs.Prelude.{◌≡◌, ℕ, false, List, if◌then◌else◌}
+use Rattle.std.specs.Prelude.{◌≡◌, ℕ, false, List, [], ◌∷◌, if◌then◌else◌}
 use Rattle.std.specs.Ordering.{nat_cmp, ordering_then, is_gt}
 use Rattle.std.specs.Cmp.Lexicographic.{slice_cmp}
 use Rattle.std.specs.declared.cmp.Ordering.{Ordering}
 use Rattle.plain_trees.specs.Plain.{Plain, bare, graft, tree_order}
-use Rattle.plain_trees.specs.View.{Labelled}
+use Rattle.plain_trees.specs.View.{Labelled, grafted}
 
 pub record Planted : Type 0 where
   pub kind : ℕ
@@ -50,3 +50,8 @@ planted_of e = record { kind = e.kind.0; p = e.p.entries; child = e.child }
 -- the edge with the canonical form of the tree above it
 abbrev pub canon_above : Planted → Planted
 canon_above e = record { kind = e.kind; p = e.p; child = canon e.child }
+
+-- the first edge of a list is not greater than the second
+abbrev pub IsAtMostNext : List Labelled → Type 0
+IsAtMostNext [] = Unit {0}
+IsAtMostNext (e ∷ es) = IsAtMostFirst (planted_of e) (grafted [] es)

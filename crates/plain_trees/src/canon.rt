@@ -1,11 +1,11 @@
 // Canonical form.
-ghost use Rattle.std.specs.Prelude.{◌≡◌, ◌≤◌, ◌↔◌, ℕ, List, [], map, IfOk, OnOk, IsOkUnless};
+ghost use Rattle.std.specs.Prelude.{◌≡◌, ◌≤◌, ◌<◌, ◌↔◌, ℕ, List, [], map, drop, length, IfOk, OnOk, IsOkUnless, IsTrue};
 ghost use Rattle.std.specs.List.{prefix_len};
 ghost use Rattle.std.specs.Ordering.{is_gt};
 ghost use Rattle.std.specs.declared.cmp.Ordering.TheVariants.{Equal};
 ghost use Rattle.plain_trees.specs.Plain.{Plain, edge_count_of, decoration_sum_of, tree_order};
 ghost use Rattle.plain_trees.specs.View.{plain, labelled, grafted, edge_order_of};
-ghost use Rattle.plain_trees.specs.Canon.{canon, with_edge, planted_of, canon_above, IsCanonical, IsSame};
+ghost use Rattle.plain_trees.specs.Canon.{canon, with_edge, planted_of, canon_above, IsAtMostNext, IsCanonical, IsSame};
 
 use crate::error::TreeError;
 use crate::tree::{Edge, Tree, edge_order};
@@ -79,6 +79,35 @@ pub fn canonical(alloc: Global, t: &Tree) -> Result<Tree, TreeError>
         insert_edge(&mut edges, e)?;
     }
     Ok(tree_of(t.n, edges))
+}
+
+/// Whether this edge is at most the next one, where there is one.
+fn is_at_most_next(edges: &[Edge], i: usize) -> bool
+    requires within { i < length edges.now }
+    requires small { edge_count_of (grafted [] (map labelled (drop i edges.now))) ≤ 24 }
+    ensures { IsTrue result ↔ IsAtMostNext (map labelled (drop i edges.now)) }
+{
+    match edges.get(i + 1) {
+        Some(next) => !edge_order(&edges[i], next).is_gt(),
+        None => true,
+    }
+}
+
+/// Whether at each node the edges are in edge order.
+pub fn is_canonical(t: &Tree) -> bool
+    requires { edge_count_of (plain t.now) ≤ 24 }
+    ensures { IsTrue result ↔ IsCanonical (plain t.now) }
+{
+    let edges = t.edges.as_slice();
+    for i in 0..edges.len() {
+        if !is_canonical(&edges[i].child) {
+            return false;
+        }
+        if !is_at_most_next(edges, i) {
+            return false;
+        }
+    }
+    true
 }
 
 /// The laws of canonical form: it is canonical; it is the same tree; exactly the canonical trees keep their form; trees are the same exactly where their
