@@ -1,0 +1,24 @@
+-- The types of equations that people know.
+--   one_noise dims scaling degree == a noise `xi` of this degree and a kernel `u` of degree 2, in halves
+--   kpz == the types of the KPZ equation
+--   phi43 == the types of the dynamic Phi^4 model in three dimensions
+use Rattle.std.specs.Prelude.{ℕ, pos, neg_ℤ, List, [], ◌∷◌}
+use Rattle.degree_numbers.specs.declared.Degree.{Degree}
+use Rattle.degree_numbers.specs.declared.Kind.TheVariants.{Noise, Kernel}
+use Rattle.degree_numbers.specs.declared.Types.{Types}
+
+abbrev pub one_noise : ℕ → List ℕ → Degree → Types
+one_noise dims scaling degree =
+    record {
+      dims = dims;
+      scaling = scaling;
+      units = record { den = pos 2 };
+      list = record { name = 120 ∷ 105 ∷ []; kind = Noise; degree = degree; group = 0 } ∷ record { name = 117 ∷ []; kind = Kernel; degree = record { a = pos 4; b = pos 0 }; group = 0 } ∷ [];
+      groups = (120 ∷ 105 ∷ []) ∷ [];
+    }
+
+abbrev pub kpz : Types
+kpz = one_noise 2 (2 ∷ 1 ∷ 0 ∷ 0 ∷ 0 ∷ []) record { a = neg_ℤ (pos 3); b = neg_ℤ (pos 2) }
+
+abbrev pub phi43 : Types
+phi43 = one_noise 4 (2 ∷ 1 ∷ 1 ∷ 1 ∷ 0 ∷ []) record { a = neg_ℤ (pos 5); b = neg_ℤ (pos 2) }

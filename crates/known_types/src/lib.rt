@@ -1,0 +1,72 @@
+//! The types of equations that people know, for tests.
+#![tactic(auto)]
+
+ghost use Rattle.std.specs.Prelude.{IfOk, ◌≡◌, ◌∷◌, []};
+ghost use Rattle.degree_numbers.specs.Types.{AreTypes};
+ghost use Rattle.known_types.specs.Known.{one_noise, kpz, phi43};
+
+use degree_numbers::{Degree, Kind, Name, TypeEntry, Types, Units};
+use sqlite_items::Items;
+use std::alloc::{AllocError, Global};
+
+fn noise() -> Name
+    ensures { result ≡ 120 ∷ 105 ∷ [] }
+{
+    Name::new(b"xi").unwrap()
+}
+
+fn unknown() -> Name
+    ensures { result ≡ 117 ∷ [] }
+{
+    Name::new(b"u").unwrap()
+}
+
+fn one_noise(
+    alloc: Global,
+    dims: u8,
+    scaling: [u32; 5],
+    degree: Degree,
+) -> Result<Types, AllocError>
+    ensures { IfOk result (λ ty. ty ≡ one_noise dims scaling degree) }
+{
+    let mut list = Items::new(alloc);
+    list.push(TypeEntry {
+        name: noise(),
+        kind: Kind::Noise,
+        degree,
+        group: 0,
+    })?;
+    list.push(TypeEntry {
+        name: unknown(),
+        kind: Kind::Kernel,
+        degree: Degree { a: 4, b: 0 },
+        group: 0,
+    })?;
+    let mut groups = Items::new(alloc);
+    groups.push(noise())?;
+    Ok(Types {
+        dims,
+        scaling,
+        units: Units { den: 2 },
+        list,
+        groups,
+    })
+}
+
+/// The types of the KPZ equation: two directions of scaling 2 and 1, a noise `xi` of degree -3/2-k, a kernel `u` of degree 2.
+#[tactic(auto, using(crate::proofs::KnownTypes::kpz_types))]
+pub fn kpz_types(alloc: Global) -> Result<Types, AllocError>
+    ensures value { IfOk result (λ ty. ty ≡ kpz) }
+    ensures types { IfOk result AreTypes }
+{
+    one_noise(alloc, 2, [2, 1, 0, 0, 0], Degree { a: -3, b: -2 })
+}
+
+/// The types of the dynamic Phi^4 model in three dimensions: four directions of scaling 2, 1, 1 and 1, a noise `xi` of degree -5/2-k, a kernel `u` of degree 2.
+#[tactic(auto, using(crate::proofs::KnownTypes::phi43_types))]
+pub fn phi43_types(alloc: Global) -> Result<Types, AllocError>
+    ensures value { IfOk result (λ ty. ty ≡ phi43) }
+    ensures types { IfOk result AreTypes }
+{
+    one_noise(alloc, 4, [2, 1, 1, 1, 0], Degree { a: -5, b: -2 })
+}
