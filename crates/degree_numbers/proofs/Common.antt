@@ -3,7 +3,7 @@ use Rattle.std.proofs.Common.{◌≡◌, ℕ, ◌*◌, ◌/◌, ◌<◌, ◌≤�
 use Rattle.std.proofs.lemmas.List.{take_more}
 use Rattle.std.specs.Int.{IsGcd, ◌∣◌, is_negative}
 use Rattle.std.proofs.lemmas.Bool.Decides.{nat_tests}
-use Rattle.std.proofs.Math.Nat.{div-mul_cancel, pos_of_dvd_of_pos, div-one, one-dvd, dvd-mul_left, dvd-mul_right, mul-dvd-mul_right}
+use Rattle.std.proofs.Math.Nat.{div-mul_cancel, pos_of_dvd_of_pos, one-dvd, dvd-mul_left, dvd-mul_right, mul-dvd-mul_right}
 use Rattle.std.specs.List.{AllByRecursion}
 use Rattle.std.proofs.lemmas.Int.{ints, to_z_pos}
 use Rattle.std.proofs.lemmas.Nat.Gcd.{dvd_trans, le_of_dvd}
@@ -12,6 +12,7 @@ use Rattle.degree_numbers.specs.Fraction.{Fraction, ClearsAll, IsCommon}
 use Rattle.degree_numbers.specs.Units.{IsJoined, Separates, fraction_of, fractions, IsWholeIn, IsPast}
 use Rattle.degree_numbers.specs.declared.written.WrittenDegree.{WrittenDegree}
 use Rattle.degree_numbers.proofs.Kept.{num_kept, den_kept}
+use Rattle.degree_numbers.proofs.LowestTerms.{lowest_divides}
 use Rattle.degree_numbers.proofs.Divisors.{clears_from, clears_to, joined_least, joined_left}
 
 pub all_push : (l : ℕ) (ts : List Fraction) (t : Fraction) → ClearsAll l ts → t.den ∣ l * t.num → ClearsAll l (ts ++ t ∷ [])
@@ -103,9 +104,6 @@ past n fs h large x above clears =
       | true ↦ λ e. let divides : n ∣ x = (h.exact (grind (arith, e, nat_tests))).least x clears in let le = le_of_dvd above divides in omega (arith, le, large)
       | false ↦ λ e. let le = h.past (grind (arith, e, nat_tests)) x above clears in omega (arith, le)
     ]) refl
-
-lowest_divides : (num den l : ℕ) → IsGcd num den 1 → 0 < den → den ∣ l * num → den ∣ l
-lowest_divides num den l h above p = subst (λ d. d ∣ l) (div-one den) (clears_to num den 1 l h above p)
 
 -- what clears degrees in lowest terms makes them whole
 pub whole_in : (ds : List WrittenDegree) (den : ℤ) → ClearsAll (unsigned_abs den) (fractions ds) → AllByRecursion (λ d. IsWholeIn d den) ds

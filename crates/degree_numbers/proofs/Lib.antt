@@ -1,8 +1,10 @@
+pub mod Back
 pub mod Common
 pub mod Divisors
 pub mod Kept
 pub mod Lengths
 pub mod LowestLemmas
+pub mod LowestTerms
 pub mod Multis
 pub mod Names
 pub mod Orders

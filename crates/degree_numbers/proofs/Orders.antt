@@ -26,10 +26,12 @@ both_equal Greater b h = absurd cc
 abbrev degree_of_parts : ℤ → ℤ → Degree
 degree_of_parts a b = record { a = a; b = b }
 
+-- degrees with equal parts are equal
+pub degree_is : (d e : Degree) → d.a ≡ e.a → d.b ≡ e.b → d ≡ e
+degree_is d e a b = ap (λ x. degree_of_parts x d.b) a ∙ ap (λ y. degree_of_parts e.a y) b
+
 pub degree_exact : CmpEqualImpliesEq degree_order
-degree_exact d e h =
-    let parts = both_equal _ _ h in
-    ap (λ a. degree_of_parts a d.b) (exact_signed d.a e.a parts.0) ∙ ap (λ b. degree_of_parts e.a b) (exact_signed d.b e.b parts.1)
+degree_exact d e h = let parts = both_equal _ _ h in degree_is d e (exact_signed d.a e.a parts.0) (exact_signed d.b e.b parts.1)
 
 ranks_with : (x y z : ℤ) (r : Ordering) → MatchOrdering r (x <ℤ y) (x ≡ y) (y <ℤ x) → MatchOrdering r ((x +ℤ z) <ℤ (y +ℤ z)) ((x +ℤ z) ≡ (y +ℤ z)) ((y +ℤ z) <ℤ (x +ℤ z))
 ranks_with x y z Less h = omega (arith, ints)

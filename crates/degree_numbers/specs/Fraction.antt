@@ -1,6 +1,7 @@
 -- Fractions of whole numbers.
 --   Fraction == a fraction as it is written: whether a minus stands before it, its numerator, its denominator
 --   IsLowest n d m b == m over b is n over d in lowest terms
+--   IsFractionInRange den z == z over den has in lowest terms a numerator and a denominator up to 1,000,000
 --   under_sign negative m == the number of size m under a sign
 --   IsReduced f z b == z over b is f in lowest terms
 --   Clears l f == l times f is whole
@@ -8,7 +9,7 @@
 --   IsLeastCommon l fs == l is the least common denominator of fs
 --   most == 2^63-1, where a least common denominator stops
 --   IsCommon n fs == n is the least common denominator of fs, or `most` where that is not smaller
-use Rattle.std.specs.Prelude.{ℕ, ◌≡◌, ◌*◌, ◌<◌, ◌≤◌, ⊤, Bool, if◌then◌else◌, ℤ, pos, neg_ℤ, List, [], ◌∷◌}
+use Rattle.std.specs.Prelude.{ℕ, ◌≡◌, ◌*◌, ◌<◌, ◌≤◌, ⊤, Bool, if◌then◌else◌, ℤ, pos, neg_ℤ, unsigned_abs, List, [], ◌∷◌}
 use Rattle.std.specs.Int.{IsGcd, ◌∣◌}
 use Rattle.text_parts.specs.Reading.{most}
 
@@ -21,6 +22,9 @@ pub record IsLowest (n d m b : ℕ) : Type 0 where
   pub den_above : 0 < b
   pub equal : m * d ≡ n * b
   pub in_lowest : IsGcd m b 1
+
+abbrev pub IsFractionInRange : ℕ → ℤ → Type 0
+IsFractionInRange den z = (n : ℕ) × (d : ℕ) × IsLowest (unsigned_abs z) den n d × (n ≤ 1000000) × (d ≤ 1000000)
 
 abbrev pub under_sign : Bool → ℕ → ℤ
 under_sign negative m = if negative then neg_ℤ (pos m) else pos m

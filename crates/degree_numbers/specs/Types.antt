@@ -23,7 +23,7 @@ use Rattle.degree_numbers.specs.declared.types.TypeEntry.{TypeEntry}
 use Rattle.degree_numbers.specs.declared.types.Kind.{Kind}
 use Rattle.degree_numbers.specs.declared.types.Kind.TheVariants.{Noise, Kernel}
 use Rattle.degree_numbers.specs.Degree.{degree_zero}
-use Rattle.degree_numbers.specs.Fraction.{IsLowest}
+use Rattle.degree_numbers.specs.Fraction.{IsFractionInRange}
 use Rattle.degree_numbers.specs.Name.{is_name}
 
 abbrev pub type_degree : Types → ℕ → Degree
@@ -60,7 +60,7 @@ pub record IsScaling (dims : ℕ) (scaling : List ℕ) : Type 0 where
 
 pub record IsWritable (den : ℕ) (z : ℤ) : Type 0 where
   pub size : unsigned_abs z ≤ 20 * den
-  pub written : (n d : ℕ) × IsLowest (unsigned_abs z) den n d × (n ≤ 1000000) × (d ≤ 1000000)
+  pub written : IsFractionInRange den z
 
 pub record IsNoiseEntry (den : ℕ) (e : TypeEntry) : Type 0 where
   pub kind : e.kind ≡ Noise

@@ -25,7 +25,7 @@ mod written;
 pub use degree::{Degree, Units};
 pub use degree_text::degree_parts;
 pub use edge_text::{put_edge_type, put_multi};
-pub use laws::{degrees_are_ordered, multis_are_ordered};
+pub use laws::{degrees_are_ordered, degrees_are_read_back, multis_are_ordered};
 pub use multi::Multi;
 pub use name::Name;
 pub use part::{Fraction, Part, Parts};
