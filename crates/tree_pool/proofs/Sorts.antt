@@ -1,14 +1,13 @@
 -- Putting edges in edge order.
-use Rattle.std.proofs.Common.{◌≡◌, ℕ, zero, suc, ◌<◌, ◌≤◌, ◌+◌, ◌-◌, List, [], ◌∷◌, ◌++◌, map, take, drop, length, get_or, slice_get, slice_index_or, Some, refl, sym, ap, ◌∙◌, arith, Bool}
+use Rattle.std.proofs.Common.{◌≡◌, ℕ, zero, suc, ◌<◌, ◌≤◌, ◌+◌, ◌-◌, List, [], ◌∷◌, ◌++◌, map, take, drop, length, get_or, slice_index_or, refl, sym, ◌∙◌, arith, Bool}
 use Rattle.std.specs.List.{prefix_len, insert}
 use Rattle.std.specs.Ordering.{is_gt}
-use Rattle.std.proofs.lemmas.Grind.{common_steps}
 use Rattle.std.proofs.lemmas.List.{map-append, take-map, drop-map, length-map}
 use Rattle.std.proofs.lemmas.List.Sums.{prefix_len-le-length}
 use Rattle.std.proofs.lemmas.Option.{slice_get-get_or}
 use Rattle.plain_trees.specs.Plain.{Plain, bare, IsSmall}
-use Rattle.plain_trees.specs.View.{Labelled, grafted, edge_order_of}
-use Rattle.plain_trees.specs.Canon.{with_edge, canon, planted_of, IsCanonical}
+use Rattle.plain_trees.specs.View.{Labelled, edge_order_of}
+use Rattle.plain_trees.specs.Canon.{with_edge, canon, planted_of}
 use Rattle.plain_trees.proofs.CanonLaws.{canon_fixed, canon_canonical}
 use Rattle.plain_trees.proofs.Inserts.{with_edge-insert, canon_count, canon_sum}
 use Rattle.plain_trees.proofs.DegreeLaws.{canon_types}

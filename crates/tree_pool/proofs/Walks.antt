@@ -1,5 +1,5 @@
 -- Walks over the edges of a root.
-use Rattle.std.proofs.Common.{◌≡◌, ℕ, zero, suc, ◌<◌, ◌≤◌, ◌+◌, ◌-◌, List, [], ◌∷◌, map, take, drop, length, get_or, slice_get, slice_index_or, Some, refl, sym, ap, ◌∙◌, arith, min, Ordering, Less, Equal, Greater, nat_cmp, length-drop}
+use Rattle.std.proofs.Common.{◌≡◌, ℕ, zero, suc, ◌<◌, ◌≤◌, ◌+◌, ◌-◌, List, [], ◌∷◌, map, take, drop, length, get_or, slice_get, Some, refl, sym, ap, ◌∙◌, arith, min, Ordering, Equal, nat_cmp, length-drop}
 use Rattle.std.proofs.lemmas.Bool.Decides.{nat_tests}
 use Rattle.std.proofs.lemmas.List.{length-map}
 use Rattle.std.proofs.lemmas.Grind.{common_steps}

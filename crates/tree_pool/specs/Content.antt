@@ -4,6 +4,7 @@
 --   Holds c i t == the tree with the number i is t
 --   labelled_by kind p t == the edge of this type and derivative decoration, with the tree t above it
 --   edge_over ts e == the edge e, with the tree above it that its number names
+--   canon_over e == the edge e, with the canonical form of the tree above it
 --   tree_over ts n es == the tree with root decoration n and the edges es
 --   id_order ts i j == tree order of the trees with the numbers i and j in ts; a number past the end comes first
 --   AreBelow i es == each of the edges es names one of the first i trees
@@ -13,7 +14,7 @@
 --   IsPooled c == what the content of every pool meets
 --   IsGrown old new == new has the types and the trees of old, under the same numbers, and maybe more trees behind them
 --   IsGrownBy old new t == new is old, or old with t behind its trees
-use Rattle.std.specs.Prelude.{◌≡◌, ◌⊎◌, ℕ, ◌<◌, List, [], ◌∷◌, ◌++◌, map, take, length, slice_get, slice_index_or, Some, ⊤, refl}
+use Rattle.std.specs.Prelude.{◌≡◌, ◌⊎◌, ℕ, ◌<◌, List, [], ◌∷◌, ◌++◌, map, take, slice_get, slice_index_or, Some, ⊤, refl}
 use Rattle.std.specs.Coded.{Coded, code_by, coded×, coded_list}
 use Rattle.std.specs.Option.{option_cmp}
 use Rattle.std.specs.declared.cmp.Ordering.{Ordering}
@@ -25,7 +26,7 @@ use Rattle.ordered_lists.specs.Members.{IsIn}
 use Rattle.plain_trees.specs.Plain.{Plain, bare, graft, IsSmall, tree_order}
 use Rattle.plain_trees.specs.Code.{plain_code}
 use Rattle.plain_trees.specs.View.{Labelled, grafted}
-use Rattle.plain_trees.specs.Canon.{IsCanonical}
+use Rattle.plain_trees.specs.Canon.{canon, IsCanonical}
 use Rattle.plain_trees.specs.Degree.{HasTypes}
 use Rattle.tree_pool.specs.declared.node.EdgeTo.{EdgeTo}
 use Rattle.tree_pool.specs.Types.{types_code}
@@ -49,6 +50,9 @@ labelled_by kind p t = record { kind = kind; p = p; child = t }
 
 abbrev pub edge_over : List Plain → EdgeTo → Labelled
 edge_over ts e = labelled_by e.kind e.p (slice_index_or ts e.child.0 (bare []))
+
+abbrev pub canon_over : Labelled → Labelled
+canon_over e = labelled_by e.kind e.p (canon e.child)
 
 abbrev pub tree_over : List Plain → List ℕ → List EdgeTo → Plain
 tree_over ts n es = grafted n (map (edge_over ts) es)

@@ -1,3 +1,5 @@
 pub mod Content
+pub mod Forests
+pub mod Joined
 pub mod Nodes
 pub mod Types

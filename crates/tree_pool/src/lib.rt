@@ -1,8 +1,11 @@
-//! Trees by number, each once.
+//! Trees and forests by number, each once.
 #![tactic(auto)]
 
 mod degree;
 mod error;
+mod forest;
+mod lists;
+mod made;
 mod node;
 mod order;
 mod plain;
@@ -10,5 +13,6 @@ mod pool;
 mod sort;
 
 pub use error::PoolError;
+pub use forest::{ForestId, ForestPool, fit_laws};
 pub use node::{EdgeTo, TreeId};
 pub use pool::Pool;

@@ -1,4 +1,4 @@
-use Rattle.std.proofs.Common.{◌≡◌, ap, ◌∙◌, arith, ◌+◌, drop, get_or}
+use Rattle.std.proofs.Common.{ap, ◌∙◌, arith, ◌+◌, drop, get_or}
 use Rattle.degree_numbers.specs.declared.degree.Degree.{Degree}
 use Rattle.degree_numbers.specs.Degree.{degree_plus}
 use Rattle.plain_trees.specs.Degree.{degree_of, edge_degree_of}

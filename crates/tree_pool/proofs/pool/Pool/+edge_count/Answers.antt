@@ -1,6 +1,5 @@
-use Rattle.std.proofs.Common.{arith, ◌≡◌, ◌+◌, ◌<◌, ◌≤◌, [], get_or}
-use Rattle.plain_trees.specs.Plain.{edge_count_of}
-use Rattle.tree_pool.specs.Content.{tree_at, tree_over}
+use Rattle.std.proofs.Common.{arith}
+use Rattle.tree_pool.specs.Content.{tree_over}
 use Rattle.tree_pool.proofs.Walks.{no_edge, count_whole, count_most, count_cut, below_at}
 use Rattle.tree_pool.proofs.pool.Pool.+edge_count.Goals as goal
 

@@ -1,4 +1,4 @@
-use Rattle.std.proofs.Common.{arith, sym, ◌∙◌}
+use Rattle.std.proofs.Common.{arith, ◌∙◌}
 use Rattle.tree_pool.specs.Content.{tree_at}
 use Rattle.plain_trees.proofs.Orders.{tree_order_edges}
 use Rattle.tree_pool.proofs.Walks.{no_edge, root_at, order_roots, edges_whole, edges_stop, edges_end, below_at}

@@ -1,0 +1,51 @@
+-- Forests of trees of a pool, each once. A forest is the list of the numbers of its trees, in tree order.
+--   numbers ids == the numbers ids, as contracts of forests see them
+--   forest_at fs i == the forest with the number i
+--   AreKnown c ids == each of the numbers ids is that of a tree of the pool
+--   IsForest c f == f names trees of the pool, in their tree order
+--   IsSorting c ids f == f is the list ids in tree order of the trees
+--   LacksForest fs f == f is none of the forests fs
+--   AreDistinct fs == no forest stands at two places
+--   Fits fs c == each of the forests fs is one of the pool
+--   IsGrownWith old new f == new is old, or old with the forest f behind it
+use Rattle.std.specs.Prelude.{◌≡◌, ◌≢◌, ◌⊎◌, ℕ, ◌<◌, List, [], ◌∷◌, ◌++◌, map, length, slice_get, slice_index_or, Some}
+use Rattle.std.specs.List.{AllByRecursion}
+use Rattle.std.specs.List.Sorted.{IsSorted, IsPermutation}
+use Rattle.tree_pool.specs.Content.{Content, id_order}
+use Rattle.tree_pool.specs.declared.node.TreeId.{TreeId}
+use Rattle.tree_pool.specs.declared.forest.Forest.{Forest}
+
+abbrev pub numbers : List TreeId → List ℕ
+numbers = map (λ id. id.0)
+
+abbrev pub numbers_of : Forest → List ℕ
+numbers_of f = numbers f.trees.now
+
+abbrev pub forests_of : List Forest → List (List ℕ)
+forests_of = map numbers_of
+
+abbrev pub forest_at : List (List ℕ) → ℕ → List ℕ
+forest_at fs i = slice_index_or fs i []
+
+abbrev pub AreKnown : Content → List ℕ → Type 0
+AreKnown c ids = AllByRecursion (λ i. i < length c.trees) ids
+
+pub record IsForest (c : Content) (f : List ℕ) : Type 0 where
+  pub known : AreKnown c f
+  pub sorted : IsSorted (id_order c.trees) f
+
+pub record IsSorting (c : Content) (ids f : List ℕ) : Type 0 where
+  pub sorted : IsSorted (id_order c.trees) f
+  pub same : IsPermutation ids f
+
+abbrev pub Fits : List (List ℕ) → Content → Type 0
+Fits fs c = (i : ℕ) (f : List ℕ) → slice_get fs i ≡ Some f → IsForest c f
+
+abbrev pub LacksForest : List (List ℕ) → List ℕ → Type 0
+LacksForest fs f = (i : ℕ) → slice_get fs i ≢ Some f
+
+abbrev pub AreDistinct : List (List ℕ) → Type 0
+AreDistinct fs = (i j : ℕ) (f : List ℕ) → slice_get fs i ≡ Some f → slice_get fs j ≡ Some f → i ≡ j
+
+abbrev pub IsGrownWith : List (List ℕ) → List (List ℕ) → List ℕ → Type 0
+IsGrownWith old new f = (new ≡ old) ⊎ (new ≡ old ++ f ∷ [])
