@@ -1,5 +1,6 @@
 pub mod Accepted
 pub mod Collect
+pub mod DegreeEntry
 pub mod Denominator
 pub mod EdgeTypes
 pub mod FirstOf

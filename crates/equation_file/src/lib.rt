@@ -2,6 +2,7 @@
 #![tactic(auto)]
 
 mod collect;
+mod degree_entry;
 mod denominator;
 mod edge_types;
 mod equation;
