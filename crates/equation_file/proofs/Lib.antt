@@ -1,2 +1,4 @@
 pub mod EdgeTypeLaws
 pub mod LeastCommon
+pub mod FirstOfLemmas
+pub mod PlacedLemmas

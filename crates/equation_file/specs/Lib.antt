@@ -5,4 +5,5 @@ pub mod Denominator
 pub mod EdgeTypes
 pub mod FirstOf
 pub mod Names
+pub mod Products
 pub mod Terms

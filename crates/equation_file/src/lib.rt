@@ -8,6 +8,7 @@ mod edge_types;
 mod equation;
 mod names;
 mod product;
+mod resolve;
 mod terms;
 
 pub use edge_types::{edge_type_laws, edge_type_order};
