@@ -20,7 +20,7 @@
 --   markings w t == all ways to mark the edges of t, to part its decorations in two, and to raise its edges with each entry of a shift at most w
 --   cuttings w forced t == the cuttings of t with each entry of a shift at most w
 --   cutting_sum w forced which t == the sum of the splitting coefficients of the cuttings of t that `which` selects
-use Rattle.std.specs.Prelude.{ℕ, ◌+◌, ◌*◌, ◌==◌, Bool, true, false, cond, not, ◌&&◌, ◌||◌, List, [], ◌∷◌, ◌++◌, map, flat_map, filter}
+use Rattle.std.specs.Prelude.{ℕ, ◌*◌, ◌==◌, Bool, true, false, cond, not, ◌&&◌, ◌||◌, List, [], ◌∷◌, ◌++◌, map, flat_map, filter}
 use Rattle.std.specs.List.{list_any, list_all}
 use Rattle.exact_sums.specs.Sums.{total, product_over, choices}
 use Rattle.degree_numbers.specs.Multi.{is_zero, plus_of, minus_of}

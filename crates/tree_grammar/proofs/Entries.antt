@@ -1,11 +1,15 @@
 -- The entries of a written multiindex.
-use Rattle.std.proofs.Common.{◌≡◌, ℕ, zero, suc, ◌<◌, ◌≤◌, true, List, [], ◌∷◌, ◌++◌, length, drop, Some, refl, sym, ap, ◌∙◌, arith, append-nil}
+use Rattle.std.proofs.Common.{◌≡◌, ℕ, zero, suc, ◌<◌, ◌≤◌, true, List, [], ◌∷◌, ◌++◌, length, drop, Some, refl, sym, ap, ◌∙◌, arith, append-nil, rules, tests}
 use Rattle.std.proofs.lemmas.List.Sums.{take_while-cons}
 use Rattle.std.proofs.Math.Seq.{drop-append_seam}
 use Rattle.std.specs.Prelude.{min, ◌^◌, ◌-◌}
 use Rattle.std.specs.Char.{is_ascii_digit}
 use Rattle.std.specs.List.{AllByRecursion, take_while}
-use Rattle.std.specs.Str.Parse.{digits_value}
+use Rattle.std.specs.Str.Parse.{digits_value, AllDigits}
+use Rattle.std.specs.Fmt.{decimal}
+use Rattle.std.proofs.lemmas.Fmt.{decimal_is_IsNumeral}
+use Rattle.std.proofs.lemmas.Str.Parse.{digit_from_value}
+use Rattle.std.specs.Int.{IsInRange}
 use Rattle.tree_grammar.specs.Grammar.{entries_onto, IsNumber}
 use Rattle.tree_grammar.specs.Words.{word, entry_value, behind_comma, next_entry, entries_at, values, multi_of}
 use Rattle.tree_grammar.proofs.WordSums.{word_of, number_bytes}
@@ -45,3 +49,26 @@ entries_values (suc k) (v ∷ w ∷ es) s some l h =
 
 pub entries_law : (es : List (List ℕ)) (s : List ℕ) → 0 < length es → length es ≤ 5 → AllByRecursion IsNumber es → entries_at 5 (entries_onto es s) ≡ multi_of (Some es)
 entries_law es s some l h = entries_values 5 es s some l h
+
+digit_test : (c : ℕ) → IsInRange 48 57 c → is_ascii_digit c ≡ true
+digit_test c h = search (rules, tests)
+
+digit_bytes : (ds : List ℕ) → AllDigits 10 ds → AllByRecursion (λ c. is_ascii_digit c ≡ true) ds
+digit_bytes [] h = tt
+digit_bytes (c ∷ ds) h = (digit_test c (digit_from_value c h.0), digit_bytes ds h.1)
+
+number_of_digits : (ds : List ℕ) → 0 < length ds → AllByRecursion (λ c. is_ascii_digit c ≡ true) ds → IsNumber ds
+number_of_digits [] some h = absurd (omega arith)
+number_of_digits (c ∷ ds) some h = h
+
+-- a printed number is a number, and has its value
+pub decimal_number : (n : ℕ) → n < 2 ^ 31 → IsNumber (decimal n)
+decimal_number n fits = let told = decimal_is_IsNumeral n (omega arith) in number_of_digits (decimal n) told.0.0 (digit_bytes (decimal n) told.0.1)
+
+pub decimal_value : (n : ℕ) → n < 2 ^ 31 → entry_value (decimal n) ≡ n
+unfolding entry_value
+decimal_value n fits =
+    let told = decimal_is_IsNumeral n (omega arith) in
+    let all : take_while is_ascii_digit (decimal n) ≡ decimal n =
+        ap (take_while is_ascii_digit) (sym (append-nil (decimal n))) ∙ digits_of (decimal n) [] (digit_bytes (decimal n) told.0.1) refl in
+    rw all (omega (arith, told.1))

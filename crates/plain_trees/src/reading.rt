@@ -1,0 +1,98 @@
+// Trees are read from their texts.
+ghost use Rattle.std.specs.Prelude.{◌≡◌, ◌≤◌, IfOk, MatchOption, IsTrue, ◌↔◌, IsOkUnless, IfErr};
+ghost use Rattle.degree_numbers.specs.Types.{AreTypes};
+ghost use Rattle.plain_trees.specs.Plain.{Plain};
+ghost use Rattle.plain_trees.specs.Degree.{HasTypes};
+ghost use Rattle.plain_trees.specs.Reading.{IsTreeOf, PassesTests, IsRefused};
+ghost use Rattle.plain_trees.specs.Text.{tree_text};
+ghost use Rattle.plain_trees.specs.View.{plain};
+
+use crate::building::build;
+use crate::canon::is_canonical;
+use crate::error::TreeError;
+use crate::text::print_tree;
+use crate::tree::Tree;
+use degree_numbers::Types;
+use std::alloc::Global;
+use tree_grammar::{decorations_in, edges_in, first_unknown, place};
+
+const MOST_EDGES: u64 = 24;
+
+// The first fault that shows without building a tree.
+fn first_fault(types: &Types, text: &[u8], most: u32) -> Option<TreeError>
+    requires { AreTypes types.now }
+    ensures { MatchOption result (PassesTests types.now most text.now) (λ e. IsRefused types.now most text.now e) }
+{
+    if let Some(place) = place(types, text) {
+        return Some(TreeError::TreeText {
+            place: place as u64,
+        });
+    }
+    if let Some(place) = first_unknown(types, text) {
+        return Some(TreeError::UnknownType {
+            place: place as u64,
+        });
+    }
+    let count = edges_in(text) as u64;
+    if count > MOST_EDGES {
+        return Some(TreeError::TooManyEdges { count });
+    }
+    let total = decorations_in(text);
+    if total > most {
+        return Some(TreeError::TooManyDecorations { total });
+    }
+    None
+}
+
+fn has_text(alloc: Global, types: &Types, t: &Tree, text: &[u8]) -> Result<bool, TreeError>
+    requires types { AreTypes types.now }
+    requires tree { HasTypes types.now (plain t.now) }
+    ensures same { IfOk result (λ same. IsTrue same ↔ (tree_text types.now (plain t.now) ≡ text.now)) }
+    ensures memory { IsOkUnless result TreeError.Memory }
+{
+    let printed = print_tree(alloc, types, t)?;
+    Ok(printed.as_slice() == text)
+}
+
+// Reads a text that passes the tests. The bound of its decorations is told for the contract alone.
+fn read_passed(alloc: Global, types: &Types, text: &[u8], most: u32) -> Result<Tree, TreeError>
+    requires types { AreTypes types.now }
+    requires most { most ≤ 4096 }
+    requires tests { PassesTests types.now most text.now }
+    ensures tree { IfOk result (λ t. IsTreeOf types.now most text.now (plain t)) }
+    ensures refusal { IfErr result (λ e. IsRefused types.now most text.now e) }
+{
+    let t = build(alloc, types, text)?;
+    if !is_canonical(&t) {
+        return Err(TreeError::NotCanonical);
+    }
+    if !has_text(alloc, types, &t, text)? {
+        return Err(TreeError::NotCanonical);
+    }
+    Ok(t)
+}
+
+/// Reads the text of a tree, as `print_tree` writes it. `most` bounds the sum of its decorations. The refusals, in their order:
+///
+/// - `TreeText`: the text is not in the grammar. The place is that of the first byte at which no tree text goes on, or the text's length where it ends too
+///   early. Leading zeros, written multiindices that are 0 and edges in any order are in the grammar; a noise has no subtree and a kernel has one; a name of no
+///   type may have one.
+/// - `UnknownType`: a name is that of no type. The place is that of the first byte of the first such name.
+/// - `TooManyEdges`: there are more than 24 edges.
+/// - `TooManyDecorations`: the numbers sum up to more than `most`. One past 2^31-1 counts as 2^31-1, and the total stops at 2^32-1.
+/// - `NotCanonical`: the text is not the one that is printed for a canonical tree.
+/// - `Memory`: want of memory.
+///
+/// No recursion runs before the number of edges is known. `[xi*xi]` is read as a tree with two edges, `[u[xi]` is refused with `TreeText` at 6.
+pub fn read_tree(alloc: Global, types: &Types, text: &[u8], most: u32) -> Result<Tree, TreeError>
+    requires types { AreTypes types.now }
+    requires most { most ≤ 4096 }
+    ensures tree { IfOk result (λ t. IsTreeOf types.now most text.now (plain t)) }
+    ensures refusal { IfErr result (λ e. IsRefused types.now most text.now e) }
+    ensures back { (t : Plain) → IsTreeOf types.now most text.now t → IsOkUnless result TreeError.Memory × IfOk result (λ u. plain u ≡ t) }
+{
+    if let Some(fault) = first_fault(types, text, most) {
+        return Err(fault);
+    }
+    read_passed(alloc, types, text, most)
+}
