@@ -352,29 +352,29 @@ pub joined_neighbours_above : {K : Type 0} (same : K → K → Bool) (ts : List 
 joined_neighbours_above same [] a = tt
 joined_neighbours_above same (t ∷ ts) a = join_above same t ts a.0 a.1
 
-abbrev pair_of : {K : Type 0} → K → ℕ → K × ℕ
+abbrev pub pair_of : {K : Type 0} → K → ℕ → K × ℕ
 pair_of k n = (k, n)
 
-pair_same : {K : Type 0} (x y : K × ℕ) → x.0 ≡ y.0 → x.1 ≡ y.1 → x ≡ y
+pub pair_same : {K : Type 0} (x y : K × ℕ) → x.0 ≡ y.0 → x.1 ≡ y.1 → x ≡ y
 pair_same {K} x y a b = ap (λ (j : K). pair_of j x.1) a ∙ ap (λ (n : ℕ). pair_of y.0 n) b
 
 -- a collected list is settled by its sums
 module _ {K : Type 0} (c : K → K → Ordering) (total : IsTotalOrder c) (same : K → K → Bool) (o : IsExactTest same) (ties : (x y : K) → same x y ≡ is_eq (c x y)) where
-  other_key : (x y : K) → c x y ≡ Less → same y x ≡ false
+  pub other_key : (x y : K) → c x y ≡ Less → same y x ≡ false
   other_key x y e = ties y x ∙ ap is_eq (total.antisymm y x ∙ ap ordering_reverse e)
 
-  no_sum : (j : K) (ts : List (K × ℕ)) → AllByRecursion (λ y. c j y ≡ Less) (keys ts) → sum_at same j ts ≡ 0
+  pub no_sum : (j : K) (ts : List (K × ℕ)) → AllByRecursion (λ y. c j y ≡ Less) (keys ts) → sum_at same j ts ≡ 0
   no_sum j [] a = refl
   no_sum j (t ∷ ts) a =
       let e : cond (same t.0 j) t.1 0 ≡ 0 = ap (λ (b : Bool). cond b t.1 0) (other_key j t.0 a.0) in
       omega (arith, e, no_sum j ts a.1)
 
-  own_sum : (t : K × ℕ) (ts : List (K × ℕ)) → AllByRecursion (λ y. c t.0 y ≡ Less) (keys ts) → sum_at same t.0 (t ∷ ts) ≡ t.1
+  pub own_sum : (t : K × ℕ) (ts : List (K × ℕ)) → AllByRecursion (λ y. c t.0 y ≡ Less) (keys ts) → sum_at same t.0 (t ∷ ts) ≡ t.1
   own_sum t ts a =
       let e : cond (same t.0 t.0) t.1 0 ≡ t.1 = ap (λ (b : Bool). cond b t.1 0) (o.always t.0) in
       omega (arith, e, no_sum t.0 ts a)
 
-  below_keys : (k x : K) (xs : List K) → c k x ≡ Less → AllByRecursion (λ y. c x y ≡ Less) xs → AllByRecursion (λ y. c k y ≡ Less) xs
+  pub below_keys : (k x : K) (xs : List K) → c k x ≡ Less → AllByRecursion (λ y. c x y ≡ Less) xs → AllByRecursion (λ y. c k y ≡ Less) xs
   below_keys k x [] e h = tt
   below_keys k x (y ∷ ys) e h = (total.trans k x y e h.0, below_keys k x ys e h.1)
 

@@ -1,3 +1,4 @@
+pub mod CollectedLaws
 pub mod KeyedLaws
 pub mod MultinomialLaws
 pub mod SaturatingLaws

@@ -1,5 +1,6 @@
 -- Formal sums as lists of terms; a term is a key with a coefficient.
 --   IsExactTest same == `same` answers whether two keys are equal
+--   same_by cmp k l == the test of equality that the order cmp gives
 --   sum_at same k terms == the sum of the coefficients of the key k
 --   HaveSameSums same xs ys == each key has one sum in both lists
 --   HaveSameSaturatedSums same xs ys == the same for sums that may be out of range
@@ -24,6 +25,9 @@ use Rattle.exact_sums.specs.Saturating.{overflow, saturated, saturating_plus}
 pub record IsExactTest {K : Type 0} (same : K → K → Bool) : Type 0 where
   pub always : (a : K) → same a a ≡ true
   pub only : (a b : K) → same a b ≡ true → a ≡ b
+
+abbrev pub same_by : {K : Type 0} → (K → K → Ordering) → K → K → Bool
+same_by cmp k l = is_eq (cmp k l)
 
 abbrev pub sum_at : {K : Type 0} → (K → K → Bool) → K → List (K × ℕ) → ℕ
 sum_at same k [] = 0

@@ -1,10 +1,10 @@
 // Laws that readers and other crates can rely on: each is a clause of a function that does nothing.
 
 ghost use Rattle.std.specs.Prelude.{◌≡◌, ℕ, ◌+◌, ◌*◌, ◌++◌, List, map, sum};
-ghost use Rattle.std.specs.List.Sorted.{IsPermutation};
 ghost use Rattle.exact_sums.specs.Saturating.{saturated, saturating_plus, saturating_times, saturating_sum, saturating_product, product};
 ghost use Rattle.exact_sums.specs.Binomials.{binomial, multinomial};
-ghost use Rattle.exact_sums.specs.Keyed.{IsExactTest, HaveSameSaturatedSums, IsCollected, expanded, products};
+ghost use Rattle.exact_sums.specs.Keyed.{IsExactTest, HaveSameSaturatedSums, IsCollected, expanded, products, same_by, sum_at, collected, keys};
+ghost use Rattle.std.specs.List.Sorted.{IsPermutation, IsStrictlySortedBy};
 
 /// The value of a sum is the sum of the values, and the same for products and lists.
 pub fn saturated_laws()
@@ -37,4 +37,11 @@ pub fn product_law<K: PartialEq, J: PartialEq, L: PartialEq>()
 pub fn collected_law<K: Ord>()
     requires exact { IsExactTest K.eq }
     ensures { (xs ys : List (K × ℕ)) → IsCollected K.cmp xs → IsCollected K.cmp ys → HaveSameSaturatedSums K.eq xs ys → xs ≡ ys }
+{}
+
+/// Collecting keeps the sums by key, and puts each key once, in order.
+pub fn collecting_law<K: Ord>()
+    requires exact { IsExactTest K.eq }
+    ensures sums { (k : K) (ts : List (K × ℕ)) → sum_at (same_by K.cmp) k (collected K.cmp ts) ≡ sum_at (same_by K.cmp) k ts }
+    ensures ascending { (ts : List (K × ℕ)) → IsStrictlySortedBy K.cmp (keys (collected K.cmp ts)) }
 {}

@@ -17,15 +17,17 @@
 --   splitting_coefficient forced c == the product, over the touched nodes, of the multinomial of the node's parts,
 --       times the product, over the nodes of the quotient, of the multinomial of what is left at the nodes that are contracted to it
 --   is_closed c == the set is closed towards the root: with an edge it holds the edge into the node that the edge leaves, where there is one
---   markings w t == all ways to mark the edges of t, to part its decorations in two, and to raise its edges with each entry of a shift at most w
---   cuttings w forced t == the cuttings of t with each entry of a shift at most w
+--   limits w p == the entries of w, as many as p has; missing ones are 0
+--   shifts w p == all shifts of an edge with the derivative decoration p: the multiindices with as many entries that are at most w
+--   markings w t == all ways to mark the edges of t, to part the decorations of its nodes in two, and to raise its edges by shifts that are at most w
+--   cuttings w forced t == the cuttings of t with shifts that are at most w
 --   cutting_sum w forced which t == the sum of the splitting coefficients of the cuttings of t that `which` selects
 use Rattle.std.specs.Prelude.{ℕ, ◌*◌, ◌==◌, Bool, true, false, cond, not, ◌&&◌, ◌||◌, List, [], ◌∷◌, ◌++◌, map, flat_map, filter}
 use Rattle.std.specs.List.{list_any, list_all}
 use Rattle.exact_sums.specs.Sums.{total, product_over, choices}
 use Rattle.degree_numbers.specs.Multi.{is_zero, plus_of, minus_of}
 use Rattle.plain_trees.specs.Plain.{Plain, root_of}
-use Rattle.plain_trees.specs.Multinomials.{plus_all, below, below_all, multinomial_of}
+use Rattle.plain_trees.specs.Multinomials.{plus_all, below, multinomial_of}
 use Rattle.plain_trees.specs.Flat.{Link, links_of, tree_at}
 
 pub record Marked : Type 0 where
@@ -107,23 +109,31 @@ is_entered edges j = (j == 0) || list_any (λ e. (e.number == j) && e.inside) ed
 abbrev pub is_closed : Cutting → Bool
 is_closed c = list_all (λ e. not e.inside || is_entered c.edges e.parent) c.edges
 
+abbrev pub limits : List ℕ → List ℕ → List ℕ
+limits w [] = []
+limits [] (x ∷ p) = 0 ∷ limits [] p
+limits (k ∷ w) (x ∷ p) = k ∷ limits w p
+
+abbrev pub shifts : List ℕ → List ℕ → List (List ℕ)
+shifts w p = below (limits w p)
+
 -- all ways to mark one edge
-abbrev pub marks : ℕ → Link → List Marked
+abbrev pub marks : List ℕ → Link → List Marked
 marks w e =
     flat_map
     (λ b. flat_map
     (λ s. map
     (λ a. record { number = e.number; parent = e.parent; kind = e.kind; p = e.p; inside = b; shift = s; taken = a; left = minus_of e.n a })
     (below e.n))
-    (below_all w e.p))
+    (shifts w e.p))
     (true ∷ false ∷ [])
 
-abbrev pub markings : ℕ → Plain → List Cutting
+abbrev pub markings : List ℕ → Plain → List Cutting
 markings w t =
     flat_map (λ a. map (λ es. record { taken = a; left = minus_of (root_of t) a; edges = es }) (choices (marks w) (links_of t))) (below (root_of t))
 
-abbrev pub cuttings : ℕ → Bool → Plain → List Cutting
+abbrev pub cuttings : List ℕ → Bool → Plain → List Cutting
 cuttings w forced t = filter (is_cutting forced) (markings w t)
 
-unfoldable pub cutting_sum : ℕ → Bool → (Cutting → Bool) → Plain → ℕ
+unfoldable pub cutting_sum : List ℕ → Bool → (Cutting → Bool) → Plain → ℕ
 cutting_sum w forced which t = total (splitting_coefficient forced) (filter which (cuttings w forced t))

@@ -2,7 +2,6 @@
 --   plus_all ms == the sum of a list of multiindices, entry by entry
 --   zeros m == the multiindex with as many entries, all 0
 --   below m == the list of all multiindices that are at most m, entry by entry
---   below_all w m == the list of all multiindices with as many entries as m, each at most w
 --   choose n k == the binomial of multiindices: the product over the entries of the binomials
 --   multinomial_of ms == the multinomial of multiindices: the product over the entries of the multinomials
 use Rattle.std.specs.Prelude.{ℕ, zero, suc, ◌*◌, List, [], ◌∷◌, map, flat_map}
@@ -24,9 +23,6 @@ down_from (suc n) = suc n ∷ down_from n
 abbrev pub below : List ℕ → List (List ℕ)
 below [] = [] ∷ []
 below (x ∷ xs) = flat_map (λ k. map (λ ks. k ∷ ks) (below xs)) (down_from x)
-
-abbrev pub below_all : ℕ → List ℕ → List (List ℕ)
-below_all w m = below (map (λ x. w) m)
 
 abbrev pub choose : List ℕ → List ℕ → ℕ
 choose ns [] = 1

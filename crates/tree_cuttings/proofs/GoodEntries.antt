@@ -5,7 +5,8 @@ use Rattle.std.proofs.lemmas.List.Folds.{list_all-append}
 use Rattle.plain_trees.specs.Plain.{Plain, bare, graft}
 use Rattle.tree_cuttings.specs.Roots.{has_edge}
 use Rattle.degree_numbers.specs.Multi.{minus_of}
-use Rattle.plain_trees.specs.Multinomials.{below, zeros, below_all}
+use Rattle.plain_trees.specs.Multinomials.{below, zeros}
+use Rattle.plain_trees.specs.Cutting.{shifts}
 use Rattle.exact_sums.specs.Sums.{total, counted_if}
 use Rattle.tree_cuttings.specs.Entries.{Entry, forest_of, with_inside, with_outside, pairs, closed_from, entries, good_closed, good_entries}
 use Rattle.exact_sums.proofs.SumLaws.{total-append, total-map, total-flat_map, total-filter, total_ext, total-counted_if}
@@ -23,11 +24,11 @@ gate_turned true b n = refl
 gate_turned false true n = refl
 gate_turned false false n = refl
 
-abbrev IsGood : (Plain → Bool) → ℕ → Plain → Type 0
+abbrev IsGood : (Plain → Bool) → List ℕ → Plain → Type 0
 IsGood good w t = (b : Bool) (h : Entry → ℕ) → total (tested good h) (entries w b t) ≡ total h (good_entries good w b t)
 
 -- one edge more: the cut_components above are those of the child, tested by `first`, and those of the rest
-row_good : (good : Plain → Bool) (w : ℕ) (t : Plain) (d : Bool) (h : Entry → ℕ) (f : Entry → Entry → Entry) (first : Entry → List Plain) → IsGood good w t → ((x y : Entry) → (f x y).above ≡ first x ++ y.above) → (x : Entry) →
+row_good : (good : Plain → Bool) (w : List ℕ) (t : Plain) (d : Bool) (h : Entry → ℕ) (f : Entry → Entry → Entry) (first : Entry → List Plain) → IsGood good w t → ((x y : Entry) → (f x y).above ≡ first x ++ y.above) → (x : Entry) →
     against (tested good h) f (entries w d t) x ≡ counted_if (list_all good (first x)) (against h f (good_entries good w d t) x)
 row_good good w t d h f first of_t above x =
     total_ext (λ y. tested good h (f x y)) (λ y. counted_if (list_all good (first x)) (tested good (λ e. h (f x e)) y)) (entries w d t)
@@ -37,7 +38,7 @@ row_good good w t d h f first of_t above x =
     ∙ total-counted_if (list_all good (first x)) (tested good (λ e. h (f x e))) (entries w d t)
     ∙ ap (λ n. counted_if (list_all good (first x)) n) (of_t d (λ e. h (f x e)))
 
-inside_good : (good : Plain → Bool) (w k : ℕ) (p : List ℕ) (c t : Plain) (h : Entry → ℕ) → IsGood good w c → IsGood good w t →
+inside_good : (good : Plain → Bool) (w : List ℕ) (k : ℕ) (p : List ℕ) (c t : Plain) (h : Entry → ℕ) → IsGood good w c → IsGood good w t →
     total (tested good h) (pairs (with_inside k p) (entries w true c) (entries w true t)) ≡ total h (pairs (with_inside k p) (good_entries good w true c) (good_entries good w true t))
 inside_good good w k p c t h of_c of_t =
     total-pairs (tested good h) (with_inside k p) (entries w true c) (entries w true t)
@@ -56,7 +57,7 @@ forest_good good e n =
       | false ↦ refl
     ]
 
-closed_good : (good : Plain → Bool) (w : ℕ) (c : Plain) (g : Entry → ℕ) → IsGood good w c →
+closed_good : (good : Plain → Bool) (w : List ℕ) (c : Plain) (g : Entry → ℕ) → IsGood good w c →
     total (λ e. counted_if (list_all good (forest_of e)) (g e)) (closed_from (entries w false c) (entries w true c)) ≡ total g (good_closed good (closed_from (good_entries good w false c) (good_entries good w true c)))
 closed_good good w c g of_c =
     let kept : Entry → ℕ = λ e. counted_if (root_good good e) (g e) in
@@ -71,7 +72,7 @@ closed_good good w c g of_c =
     ∙ omega (arith, idle, touched, total-append kept (good_entries good w false c) (filter edged (good_entries good w true c)))
     ∙ sym (total-filter g (root_good good) (closed_from (good_entries good w false c) (good_entries good w true c)))
 
-outside_good : (good : Plain → Bool) (w k : ℕ) (s p : List ℕ) (c t : Plain) (d : Bool) (h : Entry → ℕ) → IsGood good w c → IsGood good w t →
+outside_good : (good : Plain → Bool) (w : List ℕ) (k : ℕ) (s p : List ℕ) (c t : Plain) (d : Bool) (h : Entry → ℕ) → IsGood good w c → IsGood good w t →
     total (tested good h) (pairs (with_outside s k p) (closed_from (entries w false c) (entries w true c)) (entries w d t))
     ≡ total h (pairs (with_outside s k p) (good_closed good (closed_from (good_entries good w false c) (good_entries good w true c))) (good_entries good w d t))
 outside_good good w k s p c t d h of_c of_t =
@@ -82,7 +83,7 @@ outside_good good w k s p c t d h of_c of_t =
     ∙ closed_good good w c g of_c
     ∙ sym (total-pairs h f (good_closed good (closed_from (good_entries good w false c) (good_entries good w true c))) (good_entries good w d t))
 
-pub good_is : (good : Plain → Bool) (w : ℕ) (t : Plain) → IsGood good w t
+pub good_is : (good : Plain → Bool) (w : List ℕ) (t : Plain) → IsGood good w t
 good_is good w (bare n) true h =
     total-map (tested good h) (λ a. record { coefficient = 1; above = []; part = bare a; quotient = bare (minus_of n a) }) (below n)
     ∙ sym (total-map h (λ a. record { coefficient = 1; above = []; part = bare a; quotient = bare (minus_of n a) }) (below n))
@@ -91,16 +92,16 @@ good_is good w (graft k p c t) true h =
     let old = closed_from (entries w false c) (entries w true c) in
     let new = good_closed good (closed_from (good_entries good w false c) (good_entries good w true c)) in
     let inside = inside_good good w k p c t h (good_is good w c) (good_is good w t) in
-    let outside = total-flat_map (tested good h) (λ s. pairs (with_outside s k p) old (entries w true t)) (below_all w p)
-    ∙ total_ext (λ s. total (tested good h) (pairs (with_outside s k p) old (entries w true t))) (λ s. total h (pairs (with_outside s k p) new (good_entries good w true t))) (below_all w p)
+    let outside = total-flat_map (tested good h) (λ s. pairs (with_outside s k p) old (entries w true t)) (shifts w p)
+    ∙ total_ext (λ s. total (tested good h) (pairs (with_outside s k p) old (entries w true t))) (λ s. total h (pairs (with_outside s k p) new (good_entries good w true t))) (shifts w p)
     (λ s. outside_good good w k s p c t true h (good_is good w c) (good_is good w t))
-    ∙ sym (total-flat_map h (λ s. pairs (with_outside s k p) new (good_entries good w true t)) (below_all w p)) in
-    total-append (tested good h) (pairs (with_inside k p) (entries w true c) (entries w true t)) (flat_map (λ s. pairs (with_outside s k p) old (entries w true t)) (below_all w p))
-    ∙ omega (arith, inside, outside, total-append h (pairs (with_inside k p) (good_entries good w true c) (good_entries good w true t)) (flat_map (λ s. pairs (with_outside s k p) new (good_entries good w true t)) (below_all w p)))
+    ∙ sym (total-flat_map h (λ s. pairs (with_outside s k p) new (good_entries good w true t)) (shifts w p)) in
+    total-append (tested good h) (pairs (with_inside k p) (entries w true c) (entries w true t)) (flat_map (λ s. pairs (with_outside s k p) old (entries w true t)) (shifts w p))
+    ∙ omega (arith, inside, outside, total-append h (pairs (with_inside k p) (good_entries good w true c) (good_entries good w true t)) (flat_map (λ s. pairs (with_outside s k p) new (good_entries good w true t)) (shifts w p)))
 good_is good w (graft k p c t) false h = outside_good good w k (zeros p) p c t false h (good_is good w c) (good_is good w t)
 
 -- the sum over the cuttings whose components are all good is a sum over the entries of the recursion that tests at closing
-pub cut_sum_is_good : (w : ℕ) (good : Plain → Bool) (test : List Plain → Plain → Bool) (t : Plain) →
+pub cut_sum_is_good : (w : List ℕ) (good : Plain → Bool) (test : List Plain → Plain → Bool) (t : Plain) →
     cut_sum w false (λ fs q. list_all good fs && test fs q) t
     ≡ total (λ e. counted_if (test (forest_of e) e.quotient) e.coefficient) (good_closed good (closed_from (good_entries good w false t) (good_entries good w true t)))
 cut_sum_is_good w good test t =

@@ -8,10 +8,13 @@ pub mod GoodEntries
 pub mod Images
 pub mod Multinomials
 pub mod Numbers
+pub mod Orders
+pub mod Positive
 pub mod RootedEntries
 pub mod RootedSums
 pub mod Rows
 pub mod SameSums
 pub mod Split
+pub mod Terms
 pub mod Untouched
 pub mod Whole

@@ -2,11 +2,11 @@
 use Rattle.std.proofs.Common.{◌≡◌, ℕ, ◌+◌, Bool, true, false, List, [], ◌∷◌, ◌++◌, map, flat_map, sym, ◌∙◌, arith}
 use Rattle.plain_trees.specs.Plain.{Plain, bare, graft, root_of, edge_count_of}
 use Rattle.degree_numbers.specs.Multi.{minus_of}
-use Rattle.plain_trees.specs.Multinomials.{below, below_all}
+use Rattle.plain_trees.specs.Multinomials.{below}
 use Rattle.exact_sums.specs.Sums.{total, choices}
 use Rattle.tree_cuttings.specs.CutTree.{CutTree, node, taken_of, left_of}
 use Rattle.tree_cuttings.specs.CutTrees.{cut_markings}
-use Rattle.plain_trees.specs.Cutting.{Marked, Cutting, marks, markings}
+use Rattle.plain_trees.specs.Cutting.{shifts, Marked, Cutting, marks, markings}
 use Rattle.plain_trees.specs.Flat.{links_from}
 use Rattle.tree_cuttings.proofs.ByNumbers.{cut_size, rows_from, flat_of}
 use Rattle.exact_sums.proofs.SumLaws.{total-map, total-flat_map, total_ext, total-swap}
@@ -28,27 +28,27 @@ total-choices_append g f (x ∷ xs) zs =
 abbrev Reading : Type 0
 Reading = ℕ → List ℕ → List ℕ → List Marked → ℕ
 
-abbrev flat_sum : ℕ → ℕ → ℕ → Plain → Reading → ℕ
+abbrev flat_sum : List ℕ → ℕ → ℕ → Plain → Reading → ℕ
 flat_sum w r next t g = total (λ a. total (λ es. g (edge_count_of t) a (minus_of (root_of t) a) es) (choices (marks w) (links_from r next t))) (below (root_of t))
 
 abbrev marked_at : ℕ → ℕ → ℕ → List ℕ → Bool → List ℕ → List ℕ → List ℕ → Marked
 marked_at r next k p b s a l = record { number = next; parent = r; kind = k; p = p; inside = b; shift = s; taken = a; left = l }
 
 -- the sum over the ways to mark one edge
-total-marks : (w r next k : ℕ) (p n : List ℕ) (h : Marked → ℕ) →
+total-marks : (w : List ℕ) (r next k : ℕ) (p n : List ℕ) (h : Marked → ℕ) →
     total h (marks w record { number = next; parent = r; kind = k; p = p; n = n })
-    ≡ total (λ s. total (λ a. h (marked_at r next k p true s a (minus_of n a))) (below n)) (below_all w p) + total (λ s. total (λ a. h (marked_at r next k p false s a (minus_of n a))) (below n)) (below_all w p)
+    ≡ total (λ s. total (λ a. h (marked_at r next k p true s a (minus_of n a))) (below n)) (shifts w p) + total (λ s. total (λ a. h (marked_at r next k p false s a (minus_of n a))) (below n)) (shifts w p)
 total-marks w r next k p n h =
-    let one : (b : Bool) → total h (flat_map (λ s. map (λ a. marked_at r next k p b s a (minus_of n a)) (below n)) (below_all w p)) ≡ total (λ s. total (λ a. h (marked_at r next k p b s a (minus_of n a))) (below n)) (below_all w p) =
-    λ b. total-flat_map h (λ s. map (λ a. marked_at r next k p b s a (minus_of n a)) (below n)) (below_all w p)
-    ∙ total_ext (λ s. total h (map (λ a. marked_at r next k p b s a (minus_of n a)) (below n))) (λ s. total (λ a. h (marked_at r next k p b s a (minus_of n a))) (below n)) (below_all w p) (λ s. total-map h (λ a. marked_at r next k p b s a (minus_of n a)) (below n)) in
-    total-flat_map h (λ b. flat_map (λ s. map (λ a. marked_at r next k p b s a (minus_of n a)) (below n)) (below_all w p)) (true ∷ false ∷ [])
+    let one : (b : Bool) → total h (flat_map (λ s. map (λ a. marked_at r next k p b s a (minus_of n a)) (below n)) (shifts w p)) ≡ total (λ s. total (λ a. h (marked_at r next k p b s a (minus_of n a))) (below n)) (shifts w p) =
+    λ b. total-flat_map h (λ s. map (λ a. marked_at r next k p b s a (minus_of n a)) (below n)) (shifts w p)
+    ∙ total_ext (λ s. total h (map (λ a. marked_at r next k p b s a (minus_of n a)) (below n))) (λ s. total (λ a. h (marked_at r next k p b s a (minus_of n a))) (below n)) (shifts w p) (λ s. total-map h (λ a. marked_at r next k p b s a (minus_of n a)) (below n)) in
+    total-flat_map h (λ b. flat_map (λ s. map (λ a. marked_at r next k p b s a (minus_of n a)) (below n)) (shifts w p)) (true ∷ false ∷ [])
     ∙ omega (arith, one true, one false)
 
-abbrev IsNumbered : ℕ → Plain → Type 0
+abbrev IsNumbered : List ℕ → Plain → Type 0
 IsNumbered w t = (r next : ℕ) (g : Reading) → total (λ m. g (cut_size m) (taken_of m) (left_of m) (rows_from r next m)) (cut_markings w t) ≡ flat_sum w r next t g
 
-pub numbered : (w : ℕ) (t : Plain) → IsNumbered w t
+pub numbered : (w : List ℕ) (t : Plain) → IsNumbered w t
 numbered w (bare n) r next g =
     total-map (λ m. g (cut_size m) (taken_of m) (left_of m) (rows_from r next m)) (λ a. node a (minus_of n a)) (below n)
     ∙ total_ext (λ a. g 0 a (minus_of n a) []) (λ a. g 0 a (minus_of n a) [] + 0) (below n) (λ a. omega arith)
@@ -72,8 +72,8 @@ numbered w (graft k p c t) r next g =
     ∙ numbered w c next (1 + next) (inner b s) in
     let of_edge : (b : Bool) →
     block w b k p c t (λ m. g (cut_size m) (taken_of m) (left_of m) (rows_from r next m))
-    ≡ total (λ s. total (λ a. total (λ es. last (marked_at r next k p b s a (minus_of (root_of c) a)) es) above) (below (root_of c))) (below_all w p) =
-    λ b. total_ext (λ s. total (λ x. total (λ y. g (1 + cut_size x + cut_size y) (taken_of y) (left_of y) (marked_at r next k p b s (taken_of x) (left_of x) ∷ (rows_from next (1 + next) x ++ rows_from r (1 + next + cut_size x) y))) (cut_markings w t)) (cut_markings w c)) (λ s. total (λ a. total (λ es. last (marked_at r next k p b s a (minus_of (root_of c) a)) es) above) (below (root_of c))) (below_all w p) (of_child b) in
+    ≡ total (λ s. total (λ a. total (λ es. last (marked_at r next k p b s a (minus_of (root_of c) a)) es) above) (below (root_of c))) (shifts w p) =
+    λ b. total_ext (λ s. total (λ x. total (λ y. g (1 + cut_size x + cut_size y) (taken_of y) (left_of y) (marked_at r next k p b s (taken_of x) (left_of x) ∷ (rows_from next (1 + next) x ++ rows_from r (1 + next + cut_size x) y))) (cut_markings w t)) (cut_markings w c)) (λ s. total (λ a. total (λ es. last (marked_at r next k p b s a (minus_of (root_of c) a)) es) above) (below (root_of c))) (shifts w p) (of_child b) in
     let edges = marks w record { number = next; parent = r; kind = k; p = p; n = root_of c } in
     let of_flat : (d : List ℕ) →
     total (λ es. g size d (minus_of root d) es) (choices (marks w) (links_from r next (graft k p c t)))
@@ -90,7 +90,7 @@ numbered w (graft k p c t) r next g =
     ∙ omega (arith, of_edge true, of_edge false, turned, total-marks w r next k p (root_of c) (λ y. total (λ es. last y es) above))
 
 -- a sum over all cut_markings by numbers is one over all cut_markings read down the tree
-pub markings_are : (w : ℕ) (t : Plain) (g : Cutting → ℕ) → total g (markings w t) ≡ total (λ m. g (flat_of m)) (cut_markings w t)
+pub markings_are : (w : List ℕ) (t : Plain) (g : Cutting → ℕ) → total g (markings w t) ≡ total (λ m. g (flat_of m)) (cut_markings w t)
 markings_are w t g =
     let made : List ℕ → List Marked → Cutting = λ a es. record { taken = a; left = minus_of (root_of t) a; edges = es } in
     total-flat_map g (λ a. map (made a) (choices (marks w) (links_from 0 1 t))) (below (root_of t))

@@ -3,12 +3,12 @@ use Rattle.std.proofs.Common.{◌≡◌, ℕ, ◌+◌, ◌<◌, ◌==◌, Bool, 
 use Rattle.std.specs.List.{list_any, list_all}
 use Rattle.std.proofs.lemmas.List.Folds.{list_all-append}
 use Rattle.plain_trees.specs.Plain.{Plain, bare, graft}
-use Rattle.plain_trees.specs.Multinomials.{below, zeros, below_all}
+use Rattle.plain_trees.specs.Multinomials.{below, zeros}
 use Rattle.exact_sums.specs.Sums.{total, counted_if}
 use Rattle.tree_cuttings.specs.CutTree.{CutTree, node, edge, leaves}
 use Rattle.tree_cuttings.specs.CutTrees.{cut_trees}
 use Rattle.tree_cuttings.specs.Recursion.{sweep, closed_sum}
-use Rattle.plain_trees.specs.Cutting.{Marked}
+use Rattle.plain_trees.specs.Cutting.{shifts, Marked}
 use Rattle.tree_cuttings.proofs.ByNumbers.{cut_size, rows_from, flat_of}
 use Rattle.tree_cuttings.specs.Rooted.{is_rooted, whole, rooted_sum}
 use Rattle.plain_trees.specs.Cutting.{is_entered, is_closed}
@@ -23,7 +23,7 @@ gate_zero : (b : Bool) → counted_if b 0 ≡ 0
 gate_zero true = refl
 gate_zero false = refl
 
-sweep_zero : (w : ℕ) (b : Bool) (t : Plain) → sweep w b t (λ m. 0) ≡ 0
+sweep_zero : (w : List ℕ) (b : Bool) (t : Plain) → sweep w b t (λ m. 0) ≡ 0
 sweep_zero w true (bare n) = total-zero (below n)
 sweep_zero w false (bare n) = refl
 sweep_zero w true (graft k p c t) =
@@ -31,7 +31,7 @@ sweep_zero w true (graft k p c t) =
     let inside = sweep_ext w true c (λ x. sweep w true t (λ y. 0)) (λ x. 0) (λ x. row) ∙ sweep_zero w true c in
     let idle = sweep_ext w false c (λ x. sweep w true t (λ y. 0)) (λ x. 0) (λ x. row) ∙ sweep_zero w false c in
     let touched = sweep_ext w true c (λ x. counted_if (leaves x) (sweep w true t (λ y. 0))) (λ x. 0) (λ x. ap (λ n. counted_if (leaves x) n) row ∙ gate_zero (leaves x)) ∙ sweep_zero w true c in
-    let outside = total_ext (λ s. closed_sum w c (λ x. sweep w true t (λ y. 0))) (λ s. 0) (below_all w p) (λ s. omega (arith, idle, touched)) ∙ total-zero (below_all w p) in
+    let outside = total_ext (λ s. closed_sum w c (λ x. sweep w true t (λ y. 0))) (λ s. 0) (shifts w p) (λ s. omega (arith, idle, touched)) ∙ total-zero (shifts w p) in
     omega (arith, inside, outside)
 sweep_zero w false (graft k p c t) =
     let row = sweep_zero w false t in
@@ -39,12 +39,12 @@ sweep_zero w false (graft k p c t) =
     let touched = sweep_ext w true c (λ x. counted_if (leaves x) (sweep w false t (λ y. 0))) (λ x. 0) (λ x. ap (λ n. counted_if (leaves x) n) row ∙ gate_zero (leaves x)) ∙ sweep_zero w true c in
     omega (arith, idle, touched)
 
-sweep_gate : (w : ℕ) (b z : Bool) (t : Plain) (f : CutTree → ℕ) → sweep w b t (λ m. counted_if z (f m)) ≡ counted_if z (sweep w b t f)
+sweep_gate : (w : List ℕ) (b z : Bool) (t : Plain) (f : CutTree → ℕ) → sweep w b t (λ m. counted_if z (f m)) ≡ counted_if z (sweep w b t f)
 sweep_gate w b true t f = refl
 sweep_gate w b false t f = sweep_zero w b t
 
 -- a test of the child and one of the rest
-sweep_both : (w : ℕ) (d a : Bool) (t : Plain) (q : CutTree → Bool) (f : CutTree → ℕ) → sweep w d t (λ y. counted_if (a && q y) (f y)) ≡ counted_if a (sweep w d t (λ y. counted_if (q y) (f y)))
+sweep_both : (w : List ℕ) (d a : Bool) (t : Plain) (q : CutTree → Bool) (f : CutTree → ℕ) → sweep w d t (λ y. counted_if (a && q y) (f y)) ≡ counted_if a (sweep w d t (λ y. counted_if (q y) (f y)))
 sweep_both w d a t q f = sweep_ext w d t (λ y. counted_if (a && q y) (f y)) (λ y. counted_if a (counted_if (q y) (f y))) (λ y. counted_if-and a (q y) (f y)) ∙ sweep_gate w d a t (λ y. counted_if (q y) (f y))
 
 -- where an edge of K leaves the root, the cutting is not whole
@@ -58,12 +58,12 @@ not_whole (node a l) = refl
 not_whole (edge true s k p c r) = refl
 not_whole (edge false s k p c r) = not_both (leaves r) (is_rooted false c) (is_rooted false r) (not_whole r)
 
-closed_whole : (w : ℕ) (c : Plain) (g : CutTree → ℕ) → sweep w false c (λ x. counted_if (is_rooted false x) (g x)) ≡ g (whole c) → closed_sum w c (λ x. counted_if (is_rooted false x) (g x)) ≡ g (whole c)
+closed_whole : (w : List ℕ) (c : Plain) (g : CutTree → ℕ) → sweep w false c (λ x. counted_if (is_rooted false x) (g x)) ≡ g (whole c) → closed_sum w c (λ x. counted_if (is_rooted false x) (g x)) ≡ g (whole c)
 closed_whole w c g h =
     let touched = sweep_ext w true c (λ x. counted_if (leaves x) (counted_if (is_rooted false x) (g x))) (λ x. 0) (λ x. sym (counted_if-and (leaves x) (is_rooted false x) (g x)) ∙ ap (λ d. counted_if d (g x)) (not_whole x)) ∙ sweep_zero w true c in
     omega (arith, h, touched)
 
-whole_sum : (w : ℕ) (t : Plain) (g : CutTree → ℕ) → sweep w false t (λ x. counted_if (is_rooted false x) (g x)) ≡ g (whole t)
+whole_sum : (w : List ℕ) (t : Plain) (g : CutTree → ℕ) → sweep w false t (λ x. counted_if (is_rooted false x) (g x)) ≡ g (whole t)
 whole_sum w (bare n) g = refl
 whole_sum w (graft k p c t) g =
     let add : CutTree → CutTree → CutTree = edge false (zeros p) k p in
@@ -71,20 +71,20 @@ whole_sum w (graft k p c t) g =
     (λ x. sweep_both w false (is_rooted false x) t (is_rooted false) (λ y. g (add x y)) ∙ ap (λ n. counted_if (is_rooted false x) n) (whole_sum w t (λ y. g (add x y))))
     ∙ closed_whole w c (λ x. g (add x (whole t))) (whole_sum w c (λ x. g (add x (whole t))))
 
-pub rooted_sum_is : (w : ℕ) (t : Plain) (f : CutTree → ℕ) → sweep w true t (λ m. counted_if (is_rooted true m) (f m)) ≡ rooted_sum w t f
+pub rooted_sum_is : (w : List ℕ) (t : Plain) (f : CutTree → ℕ) → sweep w true t (λ m. counted_if (is_rooted true m) (f m)) ≡ rooted_sum w t f
 rooted_sum_is w (bare n) f = refl
 rooted_sum_is w (graft k p c t) f =
     let row : (b : Bool) (s : List ℕ) (x : CutTree) → sweep w true t (λ y. counted_if (is_rooted b x && is_rooted true y) (f (edge b s k p x y))) ≡ counted_if (is_rooted b x) (rooted_sum w t (λ y. f (edge b s k p x y))) =
     λ b s x. sweep_both w true (is_rooted b x) t (is_rooted true) (λ y. f (edge b s k p x y)) ∙ ap (λ n. counted_if (is_rooted b x) n) (rooted_sum_is w t (λ y. f (edge b s k p x y))) in
     let inside = sweep_ext w true c (λ x. sweep w true t (λ y. counted_if (is_rooted true x && is_rooted true y) (f (edge true (zeros p) k p x y)))) (λ x. counted_if (is_rooted true x) (rooted_sum w t (λ y. f (edge true (zeros p) k p x y)))) (row true (zeros p))
     ∙ rooted_sum_is w c (λ x. rooted_sum w t (λ y. f (edge true (zeros p) k p x y))) in
-    let outside = total_ext (λ s. closed_sum w c (λ x. sweep w true t (λ y. counted_if (is_rooted false x && is_rooted true y) (f (edge false s k p x y))))) (λ s. rooted_sum w t (λ y. f (edge false s k p (whole c) y))) (below_all w p)
+    let outside = total_ext (λ s. closed_sum w c (λ x. sweep w true t (λ y. counted_if (is_rooted false x && is_rooted true y) (f (edge false s k p x y))))) (λ s. rooted_sum w t (λ y. f (edge false s k p (whole c) y))) (shifts w p)
     (λ s. closed_ext w c (λ x. sweep w true t (λ y. counted_if (is_rooted false x && is_rooted true y) (f (edge false s k p x y)))) (λ x. counted_if (is_rooted false x) (rooted_sum w t (λ y. f (edge false s k p x y)))) (row false s)
     ∙ closed_whole w c (λ x. rooted_sum w t (λ y. f (edge false s k p x y))) (whole_sum w c (λ x. rooted_sum w t (λ y. f (edge false s k p x y))))) in
     omega (arith, inside, outside)
 
 -- the sum over the rooted cut_trees
-pub rooted_is : (w : ℕ) (t : Plain) (f : CutTree → ℕ) → total (λ m. counted_if (is_rooted true m) (f m)) (cut_trees w true t) ≡ rooted_sum w t f
+pub rooted_is : (w : List ℕ) (t : Plain) (f : CutTree → ℕ) → total (λ m. counted_if (is_rooted true m) (f m)) (cut_trees w true t) ≡ rooted_sum w t f
 rooted_is w t f = open_is w t (λ m. counted_if (is_rooted true m) (f m)) ∙ rooted_sum_is w t f
 
 -- by numbers

@@ -25,7 +25,7 @@ counted_same false true f g e h = absurd cc
 counted_same false false f g e h = refl
 
 -- a sum over the cuttings of what a cutting and its coefficient give
-pub sum_is : (w : ℕ) (forced : Bool) (g : Cutting → ℕ → ℕ) (t : Plain) →
+pub sum_is : (w : List ℕ) (forced : Bool) (g : Cutting → ℕ → ℕ) (t : Plain) →
     total (λ c. g c (splitting_coefficient forced c)) (cuttings w forced t) ≡ total (λ m. g (flat_of m) (cut_coefficient m)) (cut_trees w forced t)
 sum_is w forced g t =
     let f : Cutting → ℕ = λ c. g c (splitting_coefficient forced c) in
@@ -37,30 +37,30 @@ sum_is w forced g t =
     ∙ sym (total-filter (λ m. g (flat_of m) (cut_coefficient m)) (is_cut forced) (cut_markings w t))
 
 -- a sum over the cuttings of what the components, the quotient and the coefficient give
-pub value_sum_is : (w : ℕ) (forced : Bool) (g : List Plain → Plain → ℕ → ℕ) (t : Plain) →
+pub value_sum_is : (w : List ℕ) (forced : Bool) (g : List Plain → Plain → ℕ → ℕ) (t : Plain) →
     total (λ c. g (components forced c) (quotient c) (splitting_coefficient forced c)) (cuttings w forced t) ≡ total (λ m. g (cut_components forced m) (contracted m) (cut_coefficient m)) (cut_trees w forced t)
 value_sum_is w forced g t =
     sum_is w forced (λ c n. g (components forced c) (quotient c) n) t
     ∙ total_ext (λ m. g (components forced (flat_of m)) (quotient (flat_of m)) (cut_coefficient m)) (λ m. g (cut_components forced m) (contracted m) (cut_coefficient m)) (cut_trees w forced t)
     (λ m. ap (λ fs. g fs (quotient (flat_of m)) (cut_coefficient m)) (components_same forced m) ∙ ap (λ q. g (cut_components forced m) q (cut_coefficient m)) (quotient_same m))
 
-pub cutting_sum_is : (w : ℕ) (forced : Bool) (test : List Plain → Plain → Bool) (t : Plain) →
+pub cutting_sum_is : (w : List ℕ) (forced : Bool) (test : List Plain → Plain → Bool) (t : Plain) →
     cutting_sum w forced (λ c. test (components forced c) (quotient c)) t ≡ cut_sum w forced test t
 unfolding cutting_sum cut_sum
 cutting_sum_is w forced test t =
     total-filter (splitting_coefficient forced) (λ c. test (components forced c) (quotient c)) (cuttings w forced t)
     ∙ value_sum_is w forced (λ fs q n. counted_if (test fs q) n) t
 
-pub cutting_sum_by_entries : (w : ℕ) (test : List Plain → Plain → Bool) (t : Plain) →
+pub cutting_sum_by_entries : (w : List ℕ) (test : List Plain → Plain → Bool) (t : Plain) →
     cutting_sum w false (λ c. test (components false c) (quotient c)) t ≡ total (λ e. counted_if (test (forest_of e) e.quotient) e.coefficient) (closed_from (entries w false t) (entries w true t))
 cutting_sum_by_entries w test t = cutting_sum_is w false test t ∙ cut_sum_is_entries w test t
 
-pub cutting_sum_by_good_entries : (w : ℕ) (good : Plain → Bool) (test : List Plain → Plain → Bool) (t : Plain) →
+pub cutting_sum_by_good_entries : (w : List ℕ) (good : Plain → Bool) (test : List Plain → Plain → Bool) (t : Plain) →
     cutting_sum w false (λ c. list_all good (components false c) && test (components false c) (quotient c)) t
     ≡ total (λ e. counted_if (test (forest_of e) e.quotient) e.coefficient) (good_closed good (closed_from (good_entries good w false t) (good_entries good w true t)))
 cutting_sum_by_good_entries w good test t = cutting_sum_is w false (λ fs q. list_all good fs && test fs q) t ∙ cut_sum_is_good w good test t
 
-pub closed_sum_by_entries : (w : ℕ) (test : Plain → Plain → Bool) (t : Plain) →
+pub closed_sum_by_entries : (w : List ℕ) (test : Plain → Plain → Bool) (t : Plain) →
     cutting_sum w true (λ c. is_closed c && test (component c.edges (root_node c)) (quotient c)) t ≡ total (λ e. counted_if (test e.part e.quotient) e.coefficient) (rooted_entries w t)
 unfolding cutting_sum
 closed_sum_by_entries w test t =

@@ -13,7 +13,8 @@ use Rattle.std.specs.Prelude.{ℕ, ◌*◌, Bool, true, false, cond, not, ◌||�
 use Rattle.plain_trees.specs.Plain.{Plain, bare, graft, root_of}
 use Rattle.tree_cuttings.specs.Roots.{raised, joined, has_edge}
 use Rattle.degree_numbers.specs.Multi.{plus_of, minus_of}
-use Rattle.plain_trees.specs.Multinomials.{below, zeros, choose, below_all}
+use Rattle.plain_trees.specs.Multinomials.{below, zeros, choose}
+use Rattle.plain_trees.specs.Cutting.{shifts}
 use Rattle.tree_cuttings.specs.CutTree.{CutTree, root_component, components_above, contracted, cut_coefficient}
 
 pub record Entry : Type 0 where
@@ -52,22 +53,22 @@ pairs f xs ys = flat_map (λ x. map (f x) ys) xs
 abbrev pub closed_from : List Entry → List Entry → List Entry
 closed_from idle touched = idle ++ filter (λ e. has_edge e.part) touched
 
-abbrev pub entries : ℕ → Bool → Plain → List Entry
+abbrev pub entries : List ℕ → Bool → Plain → List Entry
 entries w true (bare n) = map (λ a. record { coefficient = 1; above = []; part = bare a; quotient = bare (minus_of n a) }) (below n)
 entries w false (bare n) = record { coefficient = 1; above = []; part = bare (zeros n); quotient = bare n } ∷ []
 entries w true (graft k p c t) =
     pairs (with_inside k p) (entries w true c) (entries w true t)
-    ++ flat_map (λ s. pairs (with_outside s k p) (closed_from (entries w false c) (entries w true c)) (entries w true t)) (below_all w p)
+    ++ flat_map (λ s. pairs (with_outside s k p) (closed_from (entries w false c) (entries w true c)) (entries w true t)) (shifts w p)
 entries w false (graft k p c t) = pairs (with_outside (zeros p) k p) (closed_from (entries w false c) (entries w true c)) (entries w false t)
 
 abbrev pub good_closed : (Plain → Bool) → List Entry → List Entry
 good_closed good = filter (λ e. not (has_edge e.part) || good e.part)
 
-abbrev pub good_entries : (Plain → Bool) → ℕ → Bool → Plain → List Entry
+abbrev pub good_entries : (Plain → Bool) → List ℕ → Bool → Plain → List Entry
 good_entries good w true (bare n) = map (λ a. record { coefficient = 1; above = []; part = bare a; quotient = bare (minus_of n a) }) (below n)
 good_entries good w false (bare n) = record { coefficient = 1; above = []; part = bare (zeros n); quotient = bare n } ∷ []
 good_entries good w true (graft k p c t) =
     pairs (with_inside k p) (good_entries good w true c) (good_entries good w true t)
-    ++ flat_map (λ s. pairs (with_outside s k p) (good_closed good (closed_from (good_entries good w false c) (good_entries good w true c))) (good_entries good w true t)) (below_all w p)
+    ++ flat_map (λ s. pairs (with_outside s k p) (good_closed good (closed_from (good_entries good w false c) (good_entries good w true c))) (good_entries good w true t)) (shifts w p)
 good_entries good w false (graft k p c t) =
     pairs (with_outside (zeros p) k p) (good_closed good (closed_from (good_entries good w false c) (good_entries good w true c))) (good_entries good w false t)

@@ -7,7 +7,8 @@
 use Rattle.std.specs.Prelude.{ℕ, ◌+◌, Bool, true, false, not, ◌&&◌, ◌||◌, List, [], ◌++◌, map, flat_map}
 use Rattle.plain_trees.specs.Plain.{Plain, bare, graft}
 use Rattle.degree_numbers.specs.Multi.{minus_of}
-use Rattle.plain_trees.specs.Multinomials.{below, zeros, below_all}
+use Rattle.plain_trees.specs.Multinomials.{below, zeros}
+use Rattle.plain_trees.specs.Cutting.{shifts}
 use Rattle.exact_sums.specs.Sums.{total}
 use Rattle.tree_cuttings.specs.CutTree.{CutTree, node, edge}
 use Rattle.tree_cuttings.specs.Entries.{Entry, with_inside, with_outside, pairs}
@@ -20,15 +21,15 @@ abbrev pub whole : Plain → CutTree
 whole (bare n) = node (zeros n) n
 whole (graft k p c t) = edge false (zeros p) k p (whole c) (whole t)
 
-abbrev pub rooted_sum : ℕ → Plain → (CutTree → ℕ) → ℕ
+abbrev pub rooted_sum : List ℕ → Plain → (CutTree → ℕ) → ℕ
 rooted_sum w (bare n) f = total (λ a. f (node a (minus_of n a))) (below n)
 rooted_sum w (graft k p c t) f =
-    rooted_sum w c (λ x. rooted_sum w t (λ y. f (edge true (zeros p) k p x y))) + total (λ s. rooted_sum w t (λ y. f (edge false s k p (whole c) y))) (below_all w p)
+    rooted_sum w c (λ x. rooted_sum w t (λ y. f (edge true (zeros p) k p x y))) + total (λ s. rooted_sum w t (λ y. f (edge false s k p (whole c) y))) (shifts w p)
 
 abbrev pub whole_entry : Plain → Entry
 whole_entry c = record { coefficient = 1; above = []; part = bare []; quotient = c }
 
-abbrev pub rooted_entries : ℕ → Plain → List Entry
+abbrev pub rooted_entries : List ℕ → Plain → List Entry
 rooted_entries w (bare n) = map (λ a. record { coefficient = 1; above = []; part = bare a; quotient = bare (minus_of n a) }) (below n)
 rooted_entries w (graft k p c t) =
-    pairs (with_inside k p) (rooted_entries w c) (rooted_entries w t) ++ flat_map (λ s. map (with_outside s k p (whole_entry c)) (rooted_entries w t)) (below_all w p)
+    pairs (with_inside k p) (rooted_entries w c) (rooted_entries w t) ++ flat_map (λ s. map (with_outside s k p (whole_entry c)) (rooted_entries w t)) (shifts w p)
