@@ -30,7 +30,7 @@ scaling_within ty h =
 abbrev IsSmall : Degree → Type 0
 IsSmall d = IsWithin d.a 20000000 × IsWithin d.b 20000000
 
-writable_within : (den : ℕ) (z : ℤ) → den ≤ 1000000 → IsWritable den z → IsWithin z 20000000
+pub writable_within : (den : ℕ) (z : ℤ) → den ≤ 1000000 → IsWritable den z → IsWithin z 20000000
 writable_within den z most h = let size = h.size in record { low = omega (arith, ints); high = omega (arith, ints) }
 
 noise_small : (den : ℕ) (e : TypeEntry) → den ≤ 1000000 → IsNoiseEntry den e → IsSmall e.degree
@@ -47,7 +47,7 @@ degree_at_small [] k h = zero_small
 degree_at_small (e ∷ es) zero h = h.0
 degree_at_small (e ∷ es) (suc k) h = degree_at_small es k h.1
 
-den_small : (ty : Types) → AreTypes ty → unsigned_abs ty.units.den ≤ 1000000
+pub den_small : (ty : Types) → AreTypes ty → unsigned_abs ty.units.den ≤ 1000000
 den_small ty h = let above = h.den_above in let most = h.den_most in omega (arith, ints)
 
 all_small : (ty : Types) → AreTypes ty → AllByRecursion (λ e. IsSmall e.degree) ty.list

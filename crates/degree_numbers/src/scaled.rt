@@ -9,7 +9,6 @@ impl Multi {
     /// The scaled size |m|_s: the sum of `s_i * m_i`.
     #[tactic(auto, using(crate::proofs::ScaledSizes::scaled_size_most))]
     pub fn scaled_size(&self, scaling: &[u32; 5]) -> u64
-        requires entries { sum self.now.entries ≤ 4096 }
         requires scaling { AllByRecursion (λ s. s ≤ 10) scaling.now }
         ensures value { result ≡ scaled_size scaling.now self.now.entries }
         ensures most { result ≤ 10 * sum self.now.entries }

@@ -1,2 +1,4 @@
+pub mod Gaps
 pub mod OrderLaws
 pub mod RuleLaws
+pub mod Sizes

@@ -1,3 +1,5 @@
+pub mod Gaps
 pub mod Made
 pub mod Order
+pub mod Regularity
 pub mod Rule
