@@ -3,6 +3,7 @@
 --   kind_of ty k == whether type k is a noise or a kernel, where there is such a type
 --   name_of ty k == its name
 --   group_of ty k == the number of its noise group
+--   size_in_units ty m == the scaled size |m|_s in the units of the degrees: times their common denominator
 --   noise_count ty == how many noises stand at the front
 --   noises ty, kernels ty == the entries of the noises, and those behind them
 --   IsScaling dims s == the first dims of five entries are 1 to 10, the others 0
@@ -23,6 +24,7 @@ use Rattle.degree_numbers.specs.declared.types.TypeEntry.{TypeEntry}
 use Rattle.degree_numbers.specs.declared.types.Kind.{Kind}
 use Rattle.degree_numbers.specs.declared.types.Kind.TheVariants.{Noise, Kernel}
 use Rattle.degree_numbers.specs.Degree.{degree_zero}
+use Rattle.degree_numbers.specs.Multi.{scaled_size}
 use Rattle.degree_numbers.specs.Fraction.{IsFractionInRange}
 use Rattle.degree_numbers.specs.Name.{is_name}
 
@@ -37,6 +39,9 @@ name_of ty k = unwrap_or (option_map (λ e. e.name) (slice_get ty.list k)) []
 
 abbrev pub group_of : Types → ℕ → ℕ
 group_of ty k = unwrap_or (option_map (λ e. e.group) (slice_get ty.list k)) 0
+
+abbrev pub size_in_units : Types → List ℕ → ℕ
+size_in_units ty m = unsigned_abs ty.units.den * scaled_size ty.scaling m
 
 abbrev pub is_noise : Kind → Bool
 is_noise Noise = true

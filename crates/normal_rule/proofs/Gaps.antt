@@ -116,11 +116,11 @@ step_rows eq rows i row nodes gap of_row next lt is same before own step =
     step_gap (least_gap eq) greatest rows i row gap next lt is before (step ∙ ap (λ (d : Degree). standard (int_min gap.a d.a)) here)
 
 -- a difference is smaller than the number that the least starts from
-small_difference : (eq : Equation) (k : ℕ) (n : NodeType) → IsEquation eq → IsMeasuredNode n → difference eq k n ≤ℤ pos 1000000000
+small_difference : (eq : Equation) (k : ℕ) (n : NodeType) → IsEquation eq → IsMeasuredNode n → difference eq k n ≤ℤ pos 10000000000000
 small_difference eq k n h m = let left = regularity_within eq k h in let right = right_within eq k n h m in omega (arith, ints)
 
-not_start : (g : ℤ) → g ≡ greatest → g ≤ℤ pos 1000000000 → ⊥
-not_start g e low = let w : greatest ≤ℤ pos 1000000000 = subst (λ (z : ℤ). z ≤ℤ pos 1000000000) e low in absurd (omega (arith, ints))
+not_start : (g : ℤ) → g ≡ greatest → g ≤ℤ pos 10000000000000 → ⊥
+not_start g e low = let w : greatest ≤ℤ pos 10000000000000 = subst (λ (z : ℤ). z ≤ℤ pos 10000000000000) e low in absurd (omega (arith, ints))
 
 least_of_rows : (eq : Equation) (rows : List RuleRow) (r : RuleRow) (n : NodeType) → IsIn r rows → IsIn n r.nodes → rows_gap eq rows ≤ℤ difference eq r.kernel.0 n
 least_of_rows eq rows r n h k =
@@ -131,7 +131,7 @@ least_of_rows eq rows r n h k =
 is_gap : (eq : Equation) (rule : Rule) (r : RuleRow) → IsEquation eq → IsIn r rule.rows → IsIn empty_node r.nodes → AreMeasured rule.rows → IsGap eq rule (rows_gap eq rule.rows)
 is_gap eq rule r h there empty small =
     let least = least_of_rows eq rule.rows in
-    let low : rows_gap eq rule.rows ≤ℤ pos 1000000000 =
+    let low : rows_gap eq rule.rows ≤ℤ pos 10000000000000 =
     let a = least r empty_node there empty in
     let b = small_difference eq r.kernel.0 empty_node h (all_at IsMeasuredNode r.nodes empty_node (small r there) empty) in
     omega (arith, ints, a, b) in

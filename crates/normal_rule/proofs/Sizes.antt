@@ -15,7 +15,7 @@ use Rattle.degree_numbers.specs.declared.types.Kind.TheVariants.{Noise, Kernel}
 use Rattle.degree_numbers.specs.declared.types.TypeEntry.{TypeEntry}
 use Rattle.degree_numbers.specs.declared.types.Types.{Types}
 use Rattle.degree_numbers.specs.Degree.{IsWithin, degree_zero, degree_plus}
-use Rattle.degree_numbers.specs.Types.{AreTypes, type_degree}
+use Rattle.degree_numbers.specs.Types.{AreTypes, type_degree, size_in_units}
 use Rattle.degree_numbers.proofs.TypeBounds.{type_a_within, writable_within, den_small, scaling_within}
 use Rattle.equation_file.specs.declared.equation.Equation.{Equation}
 use Rattle.equation_file.specs.declared.equation.Unknown.{Unknown}
@@ -66,37 +66,43 @@ scaling_small eq h = scaling_within eq.types h.types
 pub size_small : (eq : Equation) (m : List ℕ) → IsEquation eq → All (λ x. x ≤ 4096) m → scaled_size eq.types.scaling m ≤ 204800
 size_small eq m h small = omega (arith, scaled_small eq.types.scaling m (scaling_small eq h) small, h.types.scaling.entries)
 
-pub edge_within : (eq : Equation) (e : EdgeType) → IsEquation eq → All (λ m. m ≤ 4096) e.p.entries → IsWithin (edge_regularity eq e) 21000000
+units_product : (den size : ℕ) → den ≤ 1000000 → size ≤ 204800 → den * size ≤ 204800000000
+units_product den size h k = mul-le-mul h k
+
+pub units_small : (eq : Equation) (m : List ℕ) → IsEquation eq → All (λ x. x ≤ 4096) m → size_in_units eq.types m ≤ 204800000000
+units_small eq m h small = units_product (unsigned_abs eq.types.units.den) (scaled_size eq.types.scaling m) (den_small eq.types h.types) (size_small eq m h small)
+
+pub edge_within : (eq : Equation) (e : EdgeType) → IsEquation eq → All (λ m. m ≤ 4096) e.p.entries → IsWithin (edge_regularity eq e) 205000000000
 edge_within eq e h small =
-    let size = size_small eq e.p.entries h small in
+    let size = units_small eq e.p.entries h small in
     let reg = regularity_within eq e.kind.0 h in
     record { low = omega (arith, ints); high = omega (arith, ints) }
 
 pub edge_fits : (eq : Equation) (e : EdgeType) → IsEquation eq → All (λ m. m ≤ 4096) e.p.entries → FitsSigned w64 (edge_regularity eq e)
 edge_fits eq e h small = let w = edge_within eq e h small in omega (arith, ints)
 
-pub sum_fits : (x y : ℤ) (m n : ℕ) → IsWithin x m → IsWithin y n → m + n ≤ 1000000000 → FitsSigned w64 (x +ℤ y)
+pub sum_fits : (x y : ℤ) (m n : ℕ) → IsWithin x m → IsWithin y n → m + n ≤ 10000000000000 → FitsSigned w64 (x +ℤ y)
 sum_fits x y m n h k most = omega (arith, ints)
 
 pub sum_within : (x y : ℤ) (m n : ℕ) → IsWithin x m → IsWithin y n → IsWithin (x +ℤ y) (m + n)
 sum_within x y m n h k = record { low = omega (arith, ints); high = omega (arith, ints) }
 
 pub edges_within : (eq : Equation) (es : List EdgeType) (a : ℤ) (m : ℕ) → IsEquation eq → All (λ e. All (λ x. x ≤ 4096) e.p.entries) es → IsWithin a m
-    → IsWithin (fold (λ s e. s +ℤ edge_regularity eq e) a es) (m + 21000000 * length es)
+    → IsWithin (fold (λ s e. s +ℤ edge_regularity eq e) a es) (m + 205000000000 * length es)
 edges_within eq [] a m h k w = let same : m + 0 ≡ m = omega arith in rw same w
 edges_within eq (e ∷ es) a m h k w =
     let first = edge_within eq e h (k 0 e (omega arith)) in
-    let rest = edges_within eq es (a +ℤ edge_regularity eq e) (m + 21000000) h (All-tail (λ f. All (λ x. x ≤ 4096) f.p.entries) e es k) (sum_within a (edge_regularity eq e) m 21000000 w first) in
+    let rest = edges_within eq es (a +ℤ edge_regularity eq e) (m + 205000000000) h (All-tail (λ f. All (λ x. x ≤ 4096) f.p.entries) e es k) (sum_within a (edge_regularity eq e) m 205000000000 w first) in
     record { low = omega (arith, ints); high = omega (arith, ints) }
 
-pub node_within : (eq : Equation) (n : NodeType) → IsEquation eq → IsMeasuredNode n → IsWithin (node_regularity eq n) 504000000
+pub node_within : (eq : Equation) (n : NodeType) → IsEquation eq → IsMeasuredNode n → IsWithin (node_regularity eq n) 4920000000000
 node_within eq n h m =
     let w = edges_within eq n.edges (pos 0) 0 h m.1 (record { low = omega (arith, ints); high = omega (arith, ints) }) in
     let few = m.0 in
     record { low = omega (arith, ints); high = omega (arith, ints) }
 
-pub right_within : (eq : Equation) (k : ℕ) (n : NodeType) → IsEquation eq → IsMeasuredNode n → IsWithin (right_side eq k n) 524000000
-right_within eq k n h m = sum_within (type_degree eq.types k).a (node_regularity eq n) 20000000 504000000 (degree_within eq k h) (node_within eq n h m)
+pub right_within : (eq : Equation) (k : ℕ) (n : NodeType) → IsEquation eq → IsMeasuredNode n → IsWithin (right_side eq k n) 4920020000000
+right_within eq k n h m = sum_within (type_degree eq.types k).a (node_regularity eq n) 20000000 4920000000000 (degree_within eq k h) (node_within eq n h m)
 
 abbrev edge_small : EdgeType → Type 0
 edge_small e = All (λ x. x ≤ 4096) e.p.entries

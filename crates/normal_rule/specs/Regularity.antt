@@ -1,4 +1,4 @@
--- The inequality of regularities (after Bruned, Hairer and Zambotti, section 5), in standard parts.
+-- The inequality of regularities (after Bruned, Hairer and Zambotti, section 5), in standard parts and in the units of the degrees.
 --   regularity_of eq k == reg of type k: the degree of a noise, and of a kernel the regularity that the file gives
 --   edge_regularity eq e == reg of the edge type e: that of its type, without the scaled size of its derivative
 --   node_regularity eq n == reg of the node type n: the sum over its edge types
@@ -17,8 +17,7 @@ use Rattle.degree_numbers.specs.declared.degree.Degree.{Degree}
 use Rattle.degree_numbers.specs.declared.types.Kind.{Kind}
 use Rattle.degree_numbers.specs.declared.types.Kind.TheVariants.{Noise, Kernel}
 use Rattle.degree_numbers.specs.declared.types.TypeEntry.{TypeEntry}
-use Rattle.degree_numbers.specs.Multi.{scaled_size}
-use Rattle.degree_numbers.specs.Types.{type_degree}
+use Rattle.degree_numbers.specs.Types.{type_degree, size_in_units}
 use Rattle.equation_file.specs.declared.equation.Equation.{Equation}
 use Rattle.equation_file.specs.declared.equation.Unknown.{Unknown}
 use Rattle.ordered_lists.specs.Members.{IsIn}
@@ -46,7 +45,7 @@ abbrev pub regularity_of : Equation → ℕ → ℤ
 regularity_of eq k = regularity_at (slice_get eq.types.list k) (kernel_regularity eq.unknowns k)
 
 abbrev pub edge_regularity : Equation → EdgeType → ℤ
-edge_regularity eq e = regularity_of eq e.kind.0 +ℤ neg_ℤ (pos (scaled_size eq.types.scaling e.p.entries))
+edge_regularity eq e = regularity_of eq e.kind.0 +ℤ neg_ℤ (pos (size_in_units eq.types e.p.entries))
 
 abbrev pub node_regularity : Equation → NodeType → ℤ
 node_regularity eq n = fold (λ sum e. sum +ℤ edge_regularity eq e) (pos 0) n.edges

@@ -1,9 +1,8 @@
 // The inequality of regularities.
-ghost use Rattle.std.specs.Prelude.{◌≡◌, ◌<◌, ◌≤◌, true, false, length, slice_index_or, IfOk, OnOk, IfErr, OnErr, pos, neg_ℤ};
+ghost use Rattle.std.specs.Prelude.{◌≡◌, ◌<◌, ◌≤◌, true, false, length, slice_index_or, IfOk, OnOk, IfErr, OnErr, pos, neg_ℤ, unsigned_abs, ◌*◌};
 ghost use Rattle.std.specs.List.{All, prefix_len};
 ghost use Rattle.std.specs.Int.{int_min};
-ghost use Rattle.degree_numbers.specs.Multi.{scaled_size};
-ghost use Rattle.degree_numbers.specs.Types.{type_degree};
+ghost use Rattle.degree_numbers.specs.Types.{type_degree, size_in_units};
 ghost use Rattle.equation_file.specs.Accepted.{IsEquation};
 ghost use Rattle.normal_rule.specs.Order.{empty_node};
 ghost use Rattle.normal_rule.specs.Gaps.{nodes_gap, rows_gap};
@@ -61,15 +60,33 @@ fn degree(eq: &Equation, kind: TypeId) -> Degree
     }
 }
 
-// What the derivative takes from the regularity.
+// The common denominator of the degrees.
+fn denominator(eq: &Equation) -> u64
+    requires { IsEquation eq.now }
+    ensures { result ≡ unsigned_abs eq.now.types.units.den }
+{
+    eq.types.units.den.unsigned_abs()
+}
+
+// The scaled size of a multiindex in the units of the degrees.
 #[tactic(auto, using(crate::proofs::Sizes::scaling_small))]
+fn in_units(eq: &Equation, p: &Multi) -> u64
+    requires equation { IsEquation eq.now }
+    requires entries { All (λ m. m ≤ 4096) p.now.entries }
+    ensures value { result ≡ size_in_units eq.now.types p.now.entries }
+    ensures small { result ≤ 204800000000 }
+{
+    denominator(eq) * p.scaled_size(&eq.types.scaling)
+}
+
+// What the derivative takes from the regularity.
 fn loss(eq: &Equation, p: &Multi) -> Degree
     requires equation { IsEquation eq.now }
     requires entries { All (λ m. m ≤ 4096) p.now.entries }
-    ensures { result ≡ standard (neg_ℤ (pos (scaled_size eq.now.types.scaling p.now.entries))) }
+    ensures { result ≡ standard (neg_ℤ (pos (size_in_units eq.now.types p.now.entries))) }
 {
     Degree {
-        a: -(p.scaled_size(&eq.types.scaling) as i64),
+        a: -(in_units(eq, p) as i64),
         b: 0,
     }
 }
