@@ -1,6 +1,6 @@
 -- The least difference of a list, and of rows.
 use Rattle.std.proofs.Common.{◌≡◌, ℕ, ◌+◌, ◌<◌, ◌≤◌, suc, zero, List, [], ◌∷◌, ◌++◌, length, take, drop, get_or, map, Bool, true, false, cond, ℤ, pos, refl, ap, sym, ◌∙◌, subst, inl, inr, ◌⊎◌, arith}
-use Rattle.std.specs.Prelude.{fold, ◌≤ℤ◌, int_lt, ◌-ℤ◌, slice_index_or}
+use Rattle.std.specs.Prelude.{fold, ◌≤ℤ◌, int_lt, slice_index_or}
 use Rattle.std.specs.Int.{int_min}
 use Rattle.std.specs.List.{All, prefix_len, range_with_len}
 use Rattle.std.proofs.lemmas.Int.{ints, clamps}
@@ -8,20 +8,19 @@ use Rattle.std.proofs.lemmas.List.{take_more, take_all, length-map}
 use Rattle.std.proofs.lemmas.List.FromFn.{length-range_with_len}
 use Rattle.std.proofs.lemmas.List.Sums.{prefix_len_passes}
 use Rattle.degree_numbers.specs.declared.degree.Degree.{Degree}
-use Rattle.degree_numbers.specs.Degree.{IsWithin}
 use Rattle.equation_file.specs.declared.equation.Equation.{Equation}
 use Rattle.equation_file.specs.declared.equation.Unknown.{Unknown}
 use Rattle.degree_numbers.specs.Types.{noise_count, kernels}
 use Rattle.equation_file.specs.Accepted.{IsEquation}
 use Rattle.ordered_lists.specs.Members.{IsIn}
 use Rattle.ordered_lists.proofs.Places.{fold_at}
-use Rattle.ordered_lists.proofs.Members.{all_at, member_at, from_append}
+use Rattle.ordered_lists.proofs.Members.{all_at, from_append}
 use Rattle.normal_rule.specs.declared.rule.NodeType.{NodeType}
 use Rattle.normal_rule.specs.declared.rule.RuleRow.{RuleRow}
 use Rattle.normal_rule.specs.declared.rule.Rule.{Rule}
 use Rattle.normal_rule.specs.declared.regularity.NotSubcritical.{NotSubcritical}
 use Rattle.normal_rule.specs.Order.{empty_node}
-use Rattle.normal_rule.specs.Gaps.{greatest, least_difference, nodes_gap, least_gap, rows_gap}
+use Rattle.normal_rule.specs.Gaps.{greatest, nodes_gap, least_gap, rows_gap}
 use Rattle.normal_rule.specs.Regularity.{holds, left_side, right_side, difference, standard, HoldAll, IsGap, IsFirstFailure, HasRows, IsMeasuredNode, AreMeasured}
 use Rattle.normal_rule.proofs.Sizes.{regularity_within, right_within}
 
@@ -106,7 +105,7 @@ first_failure eq rows i row nodes f lt is same before kernel node inside left ri
 }
 
 pub measured_row : (rows : List RuleRow) (i : ℕ) (row : RuleRow) (nodes : List NodeType) → i < length rows → row ≡ get_or rows i row → nodes ≡ row.nodes → AreMeasured rows → All IsMeasuredNode nodes
-measured_row rows i row nodes lt is same h = subst (All IsMeasuredNode) (sym same) (h row (member_at rows i row lt is))
+measured_row rows i row nodes lt is same h = subst (All IsMeasuredNode) (sym same) (subst (λ (r : RuleRow). All IsMeasuredNode r.nodes) (sym is) (h i row lt))
 
 pub step_rows : (eq : Equation) (rows : List RuleRow) (i : ℕ) (row : RuleRow) (nodes : List NodeType) (gap of_row next : Degree) → i < length rows → row ≡ get_or rows i row → nodes ≡ row.nodes
     → gap ≡ standard (rows_gap eq (take i rows)) → of_row ≡ standard (nodes_gap eq row.kernel.0 nodes) → next ≡ standard (int_min gap.a of_row.a)
@@ -133,7 +132,7 @@ is_gap eq rule r h there empty small =
     let least = least_of_rows eq rule.rows in
     let low : rows_gap eq rule.rows ≤ℤ pos 10000000000000 =
     let a = least r empty_node there empty in
-    let b = small_difference eq r.kernel.0 empty_node h (all_at IsMeasuredNode r.nodes empty_node (small r there) empty) in
+    let b = small_difference eq r.kernel.0 empty_node h (all_at IsMeasuredNode r.nodes empty_node (all_at (λ (s : RuleRow). All IsMeasuredNode s.nodes) rule.rows r small there) empty) in
     omega (arith, ints, a, b) in
     elim (reached (λ (s : RuleRow). nodes_gap eq s.kernel.0 s.nodes) greatest rule.rows) [
       | inl start ↦ absurd (not_start (rows_gap eq rule.rows) start low)

@@ -1,3 +1,4 @@
+pub mod Fits
 pub mod Gaps
 pub mod OrderLaws
 pub mod RuleLaws

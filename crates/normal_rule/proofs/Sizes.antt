@@ -1,6 +1,6 @@
 -- How great the numbers of the inequality are.
-use Rattle.std.proofs.Common.{◌≡◌, ℕ, ◌<◌, ◌≤◌, ◌+◌, ◌*◌, suc, zero, List, [], ◌∷◌, length, ℤ, pos, Bool, true, false, sum, arith, refl, Some, None, Option, unsigned_abs, get_or, take, ap, sym, ◌∙◌, subst}
-use Rattle.std.specs.Prelude.{slice_get, unwrap_or, ◌==◌, ◌-ℤ◌, ◌+ℤ◌, ◌≤ℤ◌, neg_ℤ, if◌then◌else◌, FitsSigned, fold}
+use Rattle.std.proofs.Common.{◌≡◌, ℕ, ◌<◌, ◌≤◌, ◌+◌, ◌*◌, List, [], ◌∷◌, length, ℤ, pos, Bool, true, false, sum, arith, Some, None, Option, unsigned_abs, get_or, take, ap, sym, ◌∙◌, subst}
+use Rattle.std.specs.Prelude.{slice_get, unwrap_or, ◌==◌, ◌+ℤ◌, if◌then◌else◌, FitsSigned, fold}
 use Rattle.std.specs.Int.{w64}
 use Rattle.std.specs.List.{All, AllByRecursion}
 use Rattle.std.specs.Option.{option_map}
@@ -23,7 +23,6 @@ use Rattle.equation_file.specs.Accepted.{IsEquation, IsUnknown}
 use Rattle.normal_rule.specs.Regularity.{kernel_regularity, regularity_by, regularity_at, regularity_of, edge_regularity, node_regularity, right_side, standard, IsMeasuredNode}
 use Rattle.normal_rule.specs.declared.rule.NodeType.{NodeType}
 use Rattle.normal_rule.specs.declared.rule.EdgeType.{EdgeType}
-use Rattle.degree_numbers.specs.declared.multi.Multi.{Multi}
 use Rattle.degree_numbers.specs.Multi.{scaled_size}
 
 product_small : (s m : ℕ) → s ≤ 10 → m ≤ 4096 → s * m ≤ 40960

@@ -3,3 +3,4 @@ pub mod Made
 pub mod Order
 pub mod Regularity
 pub mod Rule
+pub mod Text

@@ -11,7 +11,7 @@
 --   IsFirstFailure eq rows f == f names the first kernel and its first node type where it doesn't hold, and both sides there
 --   HasRows eq rule == one row for each kernel, in the order of the kernels, and in each the empty node type
 --   AreMeasured rows == each node type has at most 24 edges, and each entry of their multiindices is at most 4,096
-use Rattle.std.specs.Prelude.{◌≡◌, ◌≤◌, ◌<◌, ◌≤ℤ◌, ℕ, ℤ, pos, ◌+ℤ◌, ◌-ℤ◌, neg_ℤ, int_lt, ◌==◌, Bool, true, false, if◌then◌else◌, List, [], ◌∷◌, ◌++◌, length, map, fold, slice_get, slice_index_or, Option, Some, None}
+use Rattle.std.specs.Prelude.{◌≡◌, ◌≤◌, ◌<◌, ◌≤ℤ◌, ℕ, ℤ, pos, ◌+ℤ◌, ◌-ℤ◌, neg_ℤ, int_lt, ◌==◌, Bool, true, if◌then◌else◌, List, [], ◌∷◌, ◌++◌, length, map, fold, slice_get, slice_index_or, Option, Some, None}
 use Rattle.std.specs.List.{All, prefix_len}
 use Rattle.degree_numbers.specs.declared.degree.Degree.{Degree}
 use Rattle.degree_numbers.specs.declared.types.Kind.{Kind}
@@ -99,4 +99,4 @@ abbrev pub IsMeasuredNode : NodeType → Type 0
 IsMeasuredNode n = (length n.edges ≤ 24) × All (λ e. All (λ m. m ≤ 4096) e.p.entries) n.edges
 
 abbrev pub AreMeasured : List RuleRow → Type 0
-AreMeasured rows = (row : RuleRow) → IsIn row rows → All IsMeasuredNode row.nodes
+AreMeasured rows = All (λ row. All IsMeasuredNode row.nodes) rows

@@ -8,7 +8,9 @@ ghost use Rattle.equation_file.specs.EdgeTypes.{node_type_order};
 ghost use Rattle.normal_rule.specs.declared.rule.NodeType.{NodeType};
 ghost use Rattle.normal_rule.specs.declared.rule.Rule.{Rule};
 ghost use Rattle.normal_rule.specs.Order.{pairs, edge_order, node_order};
+ghost use Rattle.normal_rule.specs.Regularity.{HasRows, AreMeasured};
 ghost use Rattle.normal_rule.specs.Rule.{IsNormalRule, IsNormal};
+ghost use Rattle.normal_rule.specs.Text.{AreKnown};
 
 /// The orders of edge types and of node types are total and tie only what is equal, and the order of node types is that of their lists of types with
 /// multiindices.
@@ -23,4 +25,12 @@ pub fn normal_rule_laws()
     ensures exists { (eq : Equation) → IsEquation eq → (rule : Rule) × IsNormalRule eq rule }
     ensures unique { (eq : Equation) (rule other : Rule) → IsNormalRule eq rule → IsNormalRule eq other → rule ≡ other }
     ensures normal { (eq : Equation) (rule : Rule) → IsEquation eq → IsNormalRule eq rule → IsNormal rule }
+{}
+
+/// The normal rule has what the inequality of regularities and the texts of node types ask: one row for each kernel, with the empty node type; node types of
+/// at most 24 edges with entries of at most 4,096; types of the list.
+pub fn normal_rule_fits()
+    ensures rows { (eq : Equation) (rule : Rule) → IsEquation eq → IsNormalRule eq rule → HasRows eq rule }
+    ensures measured { (eq : Equation) (rule : Rule) → IsEquation eq → IsNormalRule eq rule → AreMeasured rule.rows }
+    ensures known { (eq : Equation) (rule : Rule) → IsEquation eq → IsNormalRule eq rule → AreKnown eq.types rule.rows }
 {}

@@ -40,8 +40,8 @@ fn kernel_regularity(unknowns: &[Unknown], kernel: TypeId) -> Degree
     Degree { a: 0, b: 0 }
 }
 
-// The regularity of a type.
-fn regularity(eq: &Equation, kind: TypeId) -> Degree
+/// The regularity of a type, in standard parts: of a noise its degree, of a kernel what the file gives.
+pub fn regularity_of(eq: &Equation, kind: TypeId) -> Degree
     ensures { result ≡ standard (regularity_of eq.now kind.0) }
 {
     match eq.types.list.get(kind.0 as usize) {
@@ -96,7 +96,7 @@ fn edge_regularity(eq: &Equation, edge: &EdgeType) -> Degree
     requires entries { All (λ m. m ≤ 4096) edge.now.p.entries }
     ensures { result ≡ standard (edge_regularity eq.now edge.now) }
 {
-    regularity(eq, edge.kind).plus(&loss(eq, &edge.p))
+    regularity_of(eq, edge.kind).plus(&loss(eq, &edge.p))
 }
 
 fn node_regularity(eq: &Equation, node: &NodeType) -> Degree
@@ -111,7 +111,8 @@ fn node_regularity(eq: &Equation, node: &NodeType) -> Degree
     sum
 }
 
-fn right_side(eq: &Equation, kernel: TypeId, node: &NodeType) -> Degree
+/// The right side |t| + reg(N) of the inequality of regularities for a kernel t and a node type N, in standard parts.
+pub fn right_side(eq: &Equation, kernel: TypeId, node: &NodeType) -> Degree
     requires equation { IsEquation eq.now }
     requires measured { IsMeasuredNode node.now }
     ensures { result ≡ standard (right_side eq.now kernel.0 node.now) }
@@ -128,7 +129,7 @@ fn margin(eq: &Equation, kernel: TypeId, node: &NodeType) -> Result<Degree, Degr
     ensures fails { OnErr result (holds eq.now kernel.0 node.now ≡ false) }
     ensures right { IfErr result (λ r. r ≡ standard (right_side eq.now kernel.0 node.now)) }
 {
-    let left = regularity(eq, kernel);
+    let left = regularity_of(eq, kernel);
     let right = right_side(eq, kernel, node);
     if left.a < right.a {
         Ok(Degree {
@@ -193,7 +194,7 @@ fn check_rows(eq: &Equation, rows: &[RuleRow]) -> Result<Degree, NotSubcritical>
                 return Err(NotSubcritical {
                     kernel: row.kernel,
                     node: failing.node,
-                    left: regularity(eq, row.kernel),
+                    left: regularity_of(eq, row.kernel),
                     right: failing.right,
                 });
             }

@@ -4,6 +4,8 @@ ghost use Rattle.ordered_lists.specs.Members.{insert_all};
 ghost use Rattle.normal_rule.specs.declared.rule.RuleRefusal.TheVariants.{RuleTooLarge};
 ghost use Rattle.normal_rule.specs.Order.{node_order, empty_node};
 ghost use Rattle.normal_rule.specs.Made.{with_factor, subs_of, nodes_of, row_of, rule_of};
+ghost use Rattle.normal_rule.specs.Regularity.{HasRows, AreMeasured};
+ghost use Rattle.normal_rule.specs.Text.{AreKnown};
 ghost use Rattle.normal_rule.specs.Rule.{IsNormalRule, IsNormal, nodes_in, node_count};
 ghost use Rattle.normal_rule.specs.declared.rule.Rule.{Rule};
 ghost use Rattle.equation_file.specs.Accepted.{IsEquation};
@@ -116,6 +118,9 @@ pub fn normal_rule(alloc: Global, eq: &Equation) -> Result<Rule, RuleRefusal>
     requires { IsEquation eq.now }
     ensures rule { IfOk result (λ rule. IsNormalRule eq.now rule) }
     ensures normal { IfOk result (λ rule. IsNormal rule) }
+    ensures rows { IfOk result (λ rule. HasRows eq.now rule) }
+    ensures measured { IfOk result (λ rule. AreMeasured rule.rows) }
+    ensures known { IfOk result (λ rule. AreKnown eq.now.types rule.rows) }
     ensures small { IfOk result (λ rule. node_count rule ≤ 2000) }
     ensures large { IfErr result (λ e. e ≡ RuleTooLarge → (rule : Rule) × IsNormalRule eq.now rule × (2000 < node_count rule)) }
 {

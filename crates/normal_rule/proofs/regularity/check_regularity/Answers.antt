@@ -1,9 +1,8 @@
-use Rattle.std.proofs.Common.{◌≡◌, pos, refl, ap, sym, ◌∙◌, subst}
+use Rattle.std.proofs.Common.{◌≡◌, pos}
 use Rattle.std.proofs.lemmas.Result.{IfOk-weaker}
-use Rattle.degree_numbers.specs.declared.degree.Degree.{Degree}
 use Rattle.normal_rule.specs.Gaps.{rows_gap}
 use Rattle.normal_rule.specs.Regularity.{IsGap, standard}
-use Rattle.normal_rule.proofs.Gaps.{rule_gap, gap_from}
+use Rattle.normal_rule.proofs.Gaps.{gap_from}
 use Rattle.normal_rule.proofs.regularity.check_regularity.Goals as goal
 
 pub returns-clause-gap : goal.returns-clause-gap

@@ -9,7 +9,7 @@ check_nodes-requires-clause-measured c =
 pub returns-in-Err-clause-failure : goal.returns-in-Err-clause-failure
 returns-in-Err-clause-failure c =
     first_failure c.args.eq.now c.args.rows.now c.loop-row.row-index c.row-item.result c.as_slice.result.now _ c.loop-row-test.true c.row-item.is c.as_slice.ensures c.loop-row.invariant.1
-    refl c.in-Err.ensures.node c.in-Err.ensures.inside c.regularity.ensures c.in-Err.ensures.right
+    refl c.in-Err.ensures.node c.in-Err.ensures.inside c.regularity_of.ensures c.in-Err.ensures.right
 
 pub loop-row-preserved : goal.loop-row-preserved
 loop-row-preserved c = (

@@ -1,4 +1,4 @@
-use Rattle.std.proofs.Common.{◌≡◌, arith}
+use Rattle.std.proofs.Common.{arith}
 use Rattle.normal_rule.proofs.Sizes.{units_small}
 use Rattle.normal_rule.proofs.regularity.in_units.Goals as goal
 

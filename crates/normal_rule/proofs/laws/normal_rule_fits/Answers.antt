@@ -1,0 +1,11 @@
+use Rattle.normal_rule.proofs.Fits.{rule_rows, rule_measured, rule_known}
+use Rattle.normal_rule.proofs.laws.normal_rule_fits.Goals as goal
+
+pub returns-clause-rows : goal.returns-clause-rows
+returns-clause-rows c = λ eq rule h r. rule_rows eq rule h r
+
+pub returns-clause-measured : goal.returns-clause-measured
+returns-clause-measured c = λ eq rule h r. rule_measured eq rule h r
+
+pub returns-clause-known : goal.returns-clause-known
+returns-clause-known c = λ eq rule h r. rule_known eq rule h r

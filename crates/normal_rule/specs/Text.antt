@@ -1,0 +1,31 @@
+-- Texts of node types.
+--   AreKnown ty rows == the edge types of all node types are those of types in the list
+--   node_type_text ty n == `1` where n is empty, else its edge types, joined by `*`
+use Rattle.std.specs.Prelude.{ℕ, ◌<◌, List, [], ◌∷◌, ◌++◌, length}
+use Rattle.std.specs.List.{All}
+use Rattle.degree_numbers.specs.declared.types.Types.{Types}
+use Rattle.degree_numbers.specs.EdgeText.{edge_type_text}
+use Rattle.normal_rule.specs.declared.rule.EdgeType.{EdgeType}
+use Rattle.normal_rule.specs.declared.rule.NodeType.{NodeType}
+use Rattle.normal_rule.specs.declared.rule.RuleRow.{RuleRow}
+
+abbrev pub edge_text : Types → EdgeType → List ℕ
+edge_text ty e = edge_type_text ty e.kind.0 e.p.entries
+
+-- each after a `*`
+abbrev pub further_edges_text : Types → List EdgeType → List ℕ
+further_edges_text ty [] = []
+further_edges_text ty (e ∷ es) = 42 ∷ (edge_text ty e ++ further_edges_text ty es)
+
+abbrev pub edges_text : Types → List EdgeType → List ℕ
+edges_text ty [] = 49 ∷ []
+edges_text ty (e ∷ es) = edge_text ty e ++ further_edges_text ty es
+
+abbrev pub node_type_text : Types → NodeType → List ℕ
+node_type_text ty n = edges_text ty n.edges
+
+abbrev pub IsKnownNode : Types → NodeType → Type 0
+IsKnownNode ty n = All (λ e. e.kind.0 < length ty.list) n.edges
+
+abbrev pub AreKnown : Types → List RuleRow → Type 0
+AreKnown ty rows = All (λ row. All (IsKnownNode ty) row.nodes) rows
