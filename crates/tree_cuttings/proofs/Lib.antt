@@ -1,5 +1,7 @@
+pub mod Bounds
 pub mod ByNodes
 pub mod ByNumbers
+pub mod Degrees
 pub mod FlatComponents
 pub mod FlatForm
 pub mod FlatLaw
@@ -10,6 +12,7 @@ pub mod Multinomials
 pub mod Numbers
 pub mod Orders
 pub mod Positive
+pub mod RootedBounds
 pub mod RootedEntries
 pub mod RootedSums
 pub mod Rows
@@ -18,3 +21,4 @@ pub mod Split
 pub mod Terms
 pub mod Untouched
 pub mod Whole
+pub mod Within

@@ -19,7 +19,7 @@ use Rattle.tree_cuttings.proofs.Orders.{extracted_total, extracted_exact, recent
 use Rattle.tree_cuttings.proofs.Positive.{splitting_pos, good_closed_entries_pos, rooted_pos, all_filter}
 use Rattle.tree_cuttings.proofs.SameSums.{cutting_sum_by_good_entries, closed_sum_by_entries}
 
-filter-filter : {X : Type 0} (p q : X → Bool) (xs : List X) → filter q (filter p xs) ≡ filter (λ x. p x && q x) xs
+pub filter-filter : {X : Type 0} (p q : X → Bool) (xs : List X) → filter q (filter p xs) ≡ filter (λ x. p x && q x) xs
 filter-filter p q [] = refl
 filter-filter p q (x ∷ xs) =
     elim (p x) as (λ b. filter q (cond b (x ∷ filter p xs) (filter p xs)) ≡ cond (b && q x) (x ∷ filter (λ y. p y && q y) xs) (filter (λ y. p y && q y) xs)) [
@@ -27,15 +27,15 @@ filter-filter p q (x ∷ xs) =
       | false ↦ filter-filter p q xs
     ]
 
-filter_ext : {X : Type 0} (p q : X → Bool) → ((x : X) → p x ≡ q x) → (xs : List X) → filter p xs ≡ filter q xs
+pub filter_ext : {X : Type 0} (p q : X → Bool) → ((x : X) → p x ≡ q x) → (xs : List X) → filter p xs ≡ filter q xs
 filter_ext p q h [] = refl
 filter_ext {X} p q h (x ∷ xs) = ap (λ (b : Bool). cond b (x ∷ filter p xs) (filter p xs)) (h x) ∙ ap (λ ys. cond (q x) (x ∷ ys) ys) (filter_ext p q h xs)
 
-abbrev term_of : {X K : Type 0} → (X → K) → (X → ℕ) → X → K × ℕ
+abbrev pub term_of : {X K : Type 0} → (X → K) → (X → ℕ) → X → K × ℕ
 term_of f g x = (f x, g x)
 
 -- the sum at a key of the terms that the members of a list give
-sum_at-map : {X K : Type 0} (same : K → K → Bool) (f : X → K) (g : X → ℕ) (k : K) (xs : List X) → sum_at same k (map (term_of f g) xs) ≡ total g (filter (λ x. same (f x) k) xs)
+pub sum_at-map : {X K : Type 0} (same : K → K → Bool) (f : X → K) (g : X → ℕ) (k : K) (xs : List X) → sum_at same k (map (term_of f g) xs) ≡ total g (filter (λ x. same (f x) k) xs)
 sum_at-map same f g k [] = refl
 sum_at-map same f g k (x ∷ xs) =
     elim (same (f x) k) as (λ b. cond b (g x) 0 + sum_at same k (map (term_of f g) xs) ≡ total g (cond b (x ∷ filter (λ y. same (f y) k) xs) (filter (λ y. same (f y) k) xs))) [
@@ -43,7 +43,7 @@ sum_at-map same f g k (x ∷ xs) =
       | false ↦ let rest = sum_at-map same f g k xs in omega (arith, rest)
     ]
 
-terms_positive : {X K : Type 0} (f : X → K) (g : X → ℕ) (xs : List X) → AllByRecursion (λ x. 0 < g x) xs → AllByRecursion (λ (t : K × ℕ). 0 < t.1) (map (term_of f g) xs)
+pub terms_positive : {X K : Type 0} (f : X → K) (g : X → ℕ) (xs : List X) → AllByRecursion (λ x. 0 < g x) xs → AllByRecursion (λ (t : K × ℕ). 0 < t.1) (map (term_of f g) xs)
 terms_positive f g [] a = tt
 terms_positive f g (x ∷ xs) a = (a.0, terms_positive f g xs a.1)
 
@@ -51,39 +51,39 @@ always : {X : Type 0} (g : X → ℕ) → ((x : X) → 0 < g x) → (xs : List X
 always g h [] = tt
 always g h (x ∷ xs) = (h x, always g h xs)
 
-and_assoc : (a b c : Bool) → (a && b) && c ≡ a && (b && c)
+pub and_assoc : (a b c : Bool) → (a && b) && c ≡ a && (b && c)
 and_assoc true b c = refl
 and_assoc false b c = refl
 
 module _ (ty : Types) (t : Plain) where
-  abbrev e_list : List Cutting
+  abbrev pub e_list : List Cutting
   e_list = filter (is_admissible ty) (cuttings (extraction_bound ty t) false t)
 
-  abbrev e_terms : List (Extracted × ℕ)
+  abbrev pub e_terms : List (Extracted × ℕ)
   e_terms = map (term_of extracted (splitting_coefficient false)) e_list
 
-  abbrev r_list : List Cutting
+  abbrev pub r_list : List Cutting
   r_list = filter (is_recentred ty) (cuttings (recentring_bound ty t) true t)
 
-  abbrev r_terms : List (Recentred × ℕ)
+  abbrev pub r_terms : List (Recentred × ℕ)
   r_terms = map (term_of recentred (splitting_coefficient true)) r_list
 
-  e_sum : (k : Extracted) → sum_at (same_by extracted_order) k e_terms ≡ extraction_coefficient ty t k
+  pub e_sum : (k : Extracted) → sum_at (same_by extracted_order) k e_terms ≡ extraction_coefficient ty t k
   unfolding extraction_coefficient cutting_sum
   e_sum k =
       sum_at-map (same_by extracted_order) extracted (splitting_coefficient false) k e_list
       ∙ ap (total (splitting_coefficient false)) (filter-filter (is_admissible ty) (λ c. is_eq (extracted_order (extracted c) k)) (cuttings (extraction_bound ty t) false t))
 
-  r_sum : (k : Recentred) → sum_at (same_by recentred_order) k r_terms ≡ recentring_coefficient ty t k
+  pub r_sum : (k : Recentred) → sum_at (same_by recentred_order) k r_terms ≡ recentring_coefficient ty t k
   unfolding recentring_coefficient cutting_sum
   r_sum k =
       sum_at-map (same_by recentred_order) recentred (splitting_coefficient true) k r_list
       ∙ ap (total (splitting_coefficient true)) (filter-filter (is_recentred ty) (λ c. is_eq (recentred_order (recentred c) k)) (cuttings (recentring_bound ty t) true t))
 
-  e_positive : AllByRecursion (λ (e : Extracted × ℕ). 0 < e.1) e_terms
+  pub e_positive : AllByRecursion (λ (e : Extracted × ℕ). 0 < e.1) e_terms
   e_positive = terms_positive extracted (splitting_coefficient false) e_list (always (splitting_coefficient false) (splitting_pos false) e_list)
 
-  r_positive : AllByRecursion (λ (e : Recentred × ℕ). 0 < e.1) r_terms
+  pub r_positive : AllByRecursion (λ (e : Recentred × ℕ). 0 < e.1) r_terms
   r_positive = terms_positive recentred (splitting_coefficient true) r_list (always (splitting_coefficient true) (splitting_pos true) r_list)
 
   pub extraction_sums : (k : Extracted) → sum_at (same_by extracted_order) k (extraction_terms ty t) ≡ extraction_coefficient ty t k
@@ -111,7 +111,7 @@ module _ (ty : Types) (t : Plain) where
   recentring_positive = collected_positive recentred_order r_terms r_positive
 
   -- by the recursion down the tree
-  abbrev e_entry_test : Extracted → List Plain → Plain → Bool
+  abbrev pub e_entry_test : Extracted → List Plain → Plain → Bool
   e_entry_test k fs q = is_eq (extracted_order (canon_forest fs, canon q) k)
 
   e_entries_sum : (k : Extracted) → sum_at (same_by extracted_order) k (map (term_of extracted_entry (λ e. e.coefficient)) (extraction_entries ty t)) ≡ extraction_coefficient ty t k
@@ -128,7 +128,7 @@ module _ (ty : Types) (t : Plain) where
       (terms_positive extracted_entry (λ (e : Entry). e.coefficient) (extraction_entries ty t) (good_closed_entries_pos (is_extracted ty) (extraction_bound ty t) t))
       (λ k. e_sum k ∙ sym (e_entries_sum k))
 
-  abbrev r_entry_test : Recentred → Plain → Plain → Bool
+  abbrev pub r_entry_test : Recentred → Plain → Plain → Bool
   r_entry_test k l q = are_above_zero ty q && is_eq (recentred_order (canon l, canon q) k)
 
   r_entries_sum : (k : Recentred) → sum_at (same_by recentred_order) k (map (term_of recentred_entry (λ e. e.coefficient)) (recentring_entries ty t)) ≡ recentring_coefficient ty t k

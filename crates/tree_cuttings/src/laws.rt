@@ -1,6 +1,6 @@
 // Laws of cuttings: each is a clause of a function that does nothing.
 
-ghost use Rattle.std.specs.Prelude.{◌≡◌, ◌<◌, ℕ, Bool, true, false, ◌&&◌, List, map};
+ghost use Rattle.std.specs.Prelude.{◌≡◌, ◌<◌, ◌≤◌, ◌/◌, unsigned_abs, ℕ, Bool, true, false, ◌&&◌, List, map};
 ghost use Rattle.std.specs.List.{list_all};
 ghost use Rattle.exact_sums.specs.Sums.{total, counted_if};
 ghost use Rattle.plain_trees.specs.Plain.{Plain, root_of};
@@ -11,10 +11,12 @@ ghost use Rattle.tree_cuttings.specs.CutTrees.{cut_trees, cut_sum};
 ghost use Rattle.tree_cuttings.specs.Recursion.{sweep, closed_sum};
 ghost use Rattle.tree_cuttings.specs.Entries.{Entry, entry_of, forest_of, with_inside, with_outside, closed_from, entries, good_closed, good_entries};
 ghost use Rattle.tree_cuttings.specs.Rooted.{rooted_entries};
-ghost use Rattle.tree_cuttings.specs.Terms.{extraction_entries, recentring_entries, extracted_entry, recentred_entry};
-ghost use Rattle.plain_trees.specs.Coproducts.{Extracted, Recentred, extracted_order, recentred_order, extraction_coefficient, recentring_coefficient, extraction_terms, recentring_terms};
+ghost use Rattle.tree_cuttings.specs.Terms.{extraction_entries, extraction_entries_within, recentring_entries, recentring_entries_within, extracted_entry, recentred_entry};
+ghost use Rattle.plain_trees.specs.Coproducts.{Extracted, Recentred, extracted, recentred, each_direction, negative_size, positive_size, is_admissible, is_recentred, extracted_order, recentred_order, extraction_coefficient, recentring_coefficient, extraction_terms, recentring_terms};
 ghost use Rattle.exact_sums.specs.Keyed.{same_by, sum_at, collected, keys};
 ghost use Rattle.degree_numbers.specs.declared.types.Types.{Types};
+ghost use Rattle.degree_numbers.specs.Types.{AreTypes};
+ghost use Rattle.std.specs.Ordering.{is_eq};
 ghost use Rattle.std.specs.List.{AllByRecursion};
 ghost use Rattle.std.specs.List.Sorted.{IsStrictlySortedBy};
 
@@ -61,4 +63,13 @@ pub fn terms_of_the_coproducts()
 pub fn terms_by_recursion()
     ensures extraction { (ty : Types) (t : Plain) → extraction_terms ty t ≡ collected extracted_order (map (λ e. (extracted_entry e, e.coefficient)) (extraction_entries ty t)) }
     ensures recentring { (ty : Types) (t : Plain) → recentring_terms ty t ≡ collected recentred_order (map (λ e. (recentred_entry e, e.coefficient)) (recentring_entries ty t)) }
+{}
+
+/// Greater shifts than those of the definition add no term: a component with such a shift has a degree of at least 0, and a branch that is raised by it has one
+/// of at most 0. So the terms of all small trees come from recursions with one bound.
+pub fn greater_shifts_add_no_term()
+    ensures extraction_sums { (ty : Types) (t : Plain) (n : ℕ) (k : Extracted) → AreTypes ty → negative_size ty t / unsigned_abs ty.units.den ≤ n → cutting_sum (each_direction ty.dims n) false (λ c. is_admissible ty c && is_eq (extracted_order (extracted c) k)) t ≡ extraction_coefficient ty t k }
+    ensures extraction { (ty : Types) (t : Plain) (n : ℕ) → AreTypes ty → negative_size ty t / unsigned_abs ty.units.den ≤ n → extraction_terms ty t ≡ collected extracted_order (map (λ e. (extracted_entry e, e.coefficient)) (extraction_entries_within (each_direction ty.dims n) ty t)) }
+    ensures recentring_sums { (ty : Types) (t : Plain) (n : ℕ) (k : Recentred) → AreTypes ty → positive_size ty t / unsigned_abs ty.units.den ≤ n → cutting_sum (each_direction ty.dims n) true (λ c. is_recentred ty c && is_eq (recentred_order (recentred c) k)) t ≡ recentring_coefficient ty t k }
+    ensures recentring { (ty : Types) (t : Plain) (n : ℕ) → AreTypes ty → positive_size ty t / unsigned_abs ty.units.den ≤ n → recentring_terms ty t ≡ collected recentred_order (map (λ e. (recentred_entry e, e.coefficient)) (recentring_entries_within (each_direction ty.dims n) ty t)) }
 {}
