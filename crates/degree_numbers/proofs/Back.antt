@@ -1,8 +1,8 @@
 -- What is printed of a degree is read back.
-use Rattle.std.proofs.Common.{◌≡◌, ℕ, ◌*◌, ◌/◌, ◌<◌, ◌≤◌, ◌^◌, Bool, true, false, nat_lt, ℤ, pos, negsuc, unsigned_abs, List, [], ◌∷◌, ◌++◌, length, decimal, arith, rules, tests, refl, ap, sym, ◌∙◌, subst, Some, None, Option, eqb-true, append_assoc, append-nil}
-use Rattle.std.specs.Prelude.{◌==◌, ◌&&◌, ⊤, if◌then◌else◌, codes}
+use Rattle.std.proofs.Common.{◌≡◌, ℕ, ◌*◌, ◌/◌, ◌<◌, ◌≤◌, ◌^◌, Bool, true, false, nat_lt, ℤ, pos, negsuc, unsigned_abs, List, [], ◌∷◌, ◌++◌, decimal, arith, refl, ap, sym, ◌∙◌, subst, Some, None, Option, eqb-true, append_assoc, append-nil}
+use Rattle.std.specs.Prelude.{◌==◌, ◌&&◌, if◌then◌else◌, codes}
 use Rattle.std.specs.Char.{is_ascii_digit}
-use Rattle.text_parts.specs.Reading.{◌>>=◌, mark_at, number_at, nonzero_after, is_trimmed}
+use Rattle.text_parts.specs.Reading.{◌>>=◌, mark_at, number_at, nonzero_after}
 use Rattle.text_parts.proofs.Back.{Stops, NoSpace, NoSpaces, number_back, nonzero_after_back, nonzero_after_other, mark_back, mark_other, mark_before_number, decimal_no_space, decimal_no_spaces, no_spaces-append, no_spaces_trimmed}
 use Rattle.degree_numbers.specs.Fraction.{Fraction, under_sign, IsFractionInRange}
 use Rattle.degree_numbers.specs.declared.degree.Degree.{Degree}

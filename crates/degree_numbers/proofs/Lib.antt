@@ -1,6 +1,7 @@
 pub mod Back
 pub mod Common
 pub mod Divisors
+pub mod InUnits
 pub mod Kept
 pub mod Lengths
 pub mod LowestLemmas

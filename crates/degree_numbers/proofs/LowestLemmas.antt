@@ -1,7 +1,7 @@
 -- Fractions divided by their greatest common divisor.
-use Rattle.std.proofs.Common.{◌≡◌, ℕ, ◌*◌, ◌/◌, ◌<◌, ◌≤◌, subst, arith, sym}
+use Rattle.std.proofs.Common.{◌≡◌, ℕ, ◌*◌, ◌/◌, ◌<◌, subst, arith, sym}
 use Rattle.std.specs.Int.{IsGcd, ◌∣◌}
-use Rattle.std.proofs.Math.Nat.{div-mul_cancel, pos_of_dvd_of_pos, dvd_of_mul-dvd-mul_right, mul-dvd-mul_right, one-dvd, dvd-mul_right, div-le_self, one-mul}
+use Rattle.std.proofs.Math.Nat.{div-mul_cancel, pos_of_dvd_of_pos, dvd_of_mul-dvd-mul_right, mul-dvd-mul_right, one-dvd, dvd-mul_right, one-mul}
 use Rattle.degree_numbers.specs.Fraction.{IsLowest}
 
 pub gcd_above : (n d g : ℕ) → IsGcd n d g → 0 < d → 0 < g

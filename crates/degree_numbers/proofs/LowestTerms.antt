@@ -1,7 +1,7 @@
 -- Fractions in lowest terms: what makes them whole, and that there is one.
 use Rattle.std.proofs.Common.{◌≡◌, ℕ, ◌*◌, ◌/◌, ◌<◌, subst, arith, sym, ap, ◌∙◌}
 use Rattle.std.specs.Int.{IsGcd, ◌∣◌}
-use Rattle.std.proofs.Math.Nat.{div-one, dvd-mul_left, dvd-mul_right, div-mul_cancel, eq_of_mul-eq-mul_right, mul-dvd-mul_right}
+use Rattle.std.proofs.Math.Nat.{div-one, dvd-mul_left, div-mul_cancel, eq_of_mul-eq-mul_right}
 use Rattle.std.proofs.lemmas.Nat.Gcd.{dvd_antisymm}
 use Rattle.degree_numbers.specs.Fraction.{IsLowest}
 use Rattle.degree_numbers.proofs.Divisors.{clears_to}
@@ -10,7 +10,7 @@ use Rattle.degree_numbers.proofs.Divisors.{clears_to}
 pub lowest_divides : (num den l : ℕ) → IsGcd num den 1 → 0 < den → den ∣ l * num → den ∣ l
 lowest_divides num den l h above p = subst (λ d. d ∣ l) (div-one den) (clears_to num den 1 l h above p)
 
-cancelled : (d x y : ℕ) → 0 < d → x * d ≡ y * d → x ≡ y
+pub cancelled : (d x y : ℕ) → 0 < d → x * d ≡ y * d → x ≡ y
 cancelled d x y above e = eq_of_mul-eq-mul_right d above x y e
 
 -- m over b is n over d in lowest terms: what makes the one whole makes the other whole

@@ -1,14 +1,22 @@
 -- Degree texts: a part, and perhaps a sign and a second part; one part is plain, the other has `k`. Spaces may stand between tokens.
 --   Part == a fraction under its sign, and whether `k` stands behind it
 --   factor_at text == whether `*` and `k` stand there
---   part_at negative text == a fraction, or `k`, or a fraction, `*` and `k`
+--   unit negative == 1 under its sign
+--   multiple_at negative text == a fraction, or a fraction, `*` and `k`
+--   part_at negative text == one of these, or `k`
 --   sign_at text == `+` or `-`, and whether it is `-`
 --   first_at text == a part, with a sign or without one
 --   second_at text == nothing, or a sign and a part behind which nothing stands
+--   differ first second == one part has `k` and the other has none
 --   parts_at text == the parts of a degree text, in the order in which they are written
+--   nothing == 0
+--   fraction_with has_k first second == the fraction of the part with `k`, or of the plain one; 0 where it is not written
+--   large_in f == the first number of f past 1,000,000
+--   first_large first second == the first number of the parts past 1,000,000
 --   Written == what a degree text writes: the plain fraction, that of `k`, and the first number past 1,000,000
---   written_of text == what text writes, and nothing where it is no degree text
-use Rattle.std.specs.Prelude.{ℕ, ◌==◌, Bool, true, false, not, ◌&&◌, List, [], ◌∷◌, length, if◌then◌else◌, Option, None, Some, nat_lt, unwrap_or, find}
+--   written first second == what the parts write
+--   written_of text == what text writes; nothing where it is no degree text
+use Rattle.std.specs.Prelude.{ℕ, ◌==◌, Bool, true, false, not, List, [], ◌∷◌, length, if◌then◌else◌, Option, None, Some, nat_lt, unwrap_or, find}
 use Rattle.std.specs.Bool.{beq}
 use Rattle.std.specs.Option.{option_or, option_and_then}
 use Rattle.text_parts.specs.Reading.{◌>>=◌, if_there, mark_at, number_at, nonzero_after, is_trimmed}
@@ -21,7 +29,6 @@ pub record Part : Type 0 where
 unfoldable pub factor_at : List ℕ → Option (Bool × List ℕ)
 factor_at text = if_there (mark_at 42 text) (λ rest. mark_at 107 rest >>= (λ after. Some (true, after))) (Some (false, text))
 
--- one under its sign
 abbrev pub unit : Bool → Fraction
 unit negative = record { negative = negative; num = 1; den = 1 }
 
@@ -48,7 +55,6 @@ second_at (c ∷ cs) = do
   part ← part_at sign.0 sign.1
   if length part.1 == 0 then Some (Some part.0) else None
 
--- whether one part has `k` and the other has none
 abbrev pub differ : Part → Option Part → Bool
 differ first None = true
 differ first (Some second) = not (beq second.has_k first.has_k)
@@ -59,16 +65,13 @@ parts_at text = do
   second ← second_at first.1
   if differ first.0 second then Some (first.0, second) else None
 
--- zero
 abbrev pub nothing : Fraction
 nothing = record { negative = false; num = 0; den = 1 }
 
--- the fraction of the part with `k`, or of the plain one, and zero where it is not written
 abbrev pub fraction_with : Bool → Part → Option Part → Fraction
 fraction_with has_k first None = if beq first.has_k has_k then first.fraction else nothing
 fraction_with has_k first (Some second) = if beq first.has_k has_k then first.fraction else second.fraction
 
--- the first number of a fraction past 1,000,000
 abbrev pub large_in : Fraction → Option ℕ
 large_in f = find (λ n. nat_lt 1000000 n) (f.num ∷ f.den ∷ [])
 

@@ -4,6 +4,7 @@
 --   name_of ty k == its name
 --   group_of ty k == the number of its noise group
 --   size_in_units ty m == the scaled size |m|_s in the units of the degrees: times their common denominator
+--   is_noise kind == kind is that of a noise
 --   noise_count ty == how many noises stand at the front
 --   noises ty, kernels ty == the entries of the noises, and those behind them
 --   IsScaling dims s == the first dims of five entries are 1 to 10, the others 0

@@ -6,7 +6,7 @@
 --   IsRead text result == what a text is read as
 --   in_units_of l f == f in units of one over l, where l clears it
 --   degree_in l w == the degree w in units of one over l, where l clears both fractions
-use Rattle.std.specs.Prelude.{ℕ, ◌≡◌, ◌==◌, ◌*◌, ◌/◌, Bool, not, ◌&&◌, List, Option, MatchOption, Result, Err, IsOkAnd, ℤ, pos}
+use Rattle.std.specs.Prelude.{ℕ, ◌≡◌, ◌==◌, ◌*◌, ◌/◌, Bool, not, ◌&&◌, List, MatchOption, Result, Err, IsOkAnd, ℤ, pos}
 use Rattle.degree_numbers.specs.Fraction.{Fraction, IsReduced, under_sign}
 use Rattle.degree_numbers.specs.DegreeText.{Written, written_of}
 use Rattle.degree_numbers.specs.declared.degree.Degree.{Degree}

@@ -84,3 +84,61 @@ fn joins_denominators(rt: HostRuntime) {
     assert!(rt; join_units(&[a, b]) == Ok(Units { den: 12 }));
     assert!(rt; join_units(&[a, c]) == Err(DegreeRefusal::DenominatorTooLarge));
 }
+
+#[test]
+fn multinomials(rt: HostRuntime) {
+    assert_eq!(rt; multinomial(&[]), Some(1));
+    assert_eq!(rt; multinomial(&[2, 1]), Some(3));
+    assert_eq!(rt; multinomial(&[66, 65]), None);
+}
+
+#[test]
+fn names(rt: HostRuntime) {
+    for text in [b"xi".as_slice(), b"u_1", b"kk", b"abcdefghijklmnop"] {
+        match Name::new(text) {
+            Some(name) => assert_eq!(rt; name.bytes(), text),
+            None => panic!(rt; "refused"),
+        }
+    }
+    for text in [
+        b"".as_slice(),
+        b"k",
+        b"X",
+        b"E",
+        b"T",
+        b"1u",
+        b"_u",
+        b"u-v",
+        b"abcdefghijklmnopq",
+    ] {
+        assert!(rt; Name::new(text).is_none());
+    }
+}
+
+#[test]
+fn differences_of_multiindices(rt: HostRuntime) {
+    let m = Multi {
+        entries: [2, 1, 0, 0, 0],
+    };
+    let l = Multi {
+        entries: [1, 1, 0, 0, 0],
+    };
+    let difference = Multi {
+        entries: [1, 0, 0, 0, 0],
+    };
+    assert!(rt; m.minus(&l) == Some(difference));
+    assert!(rt; l.minus(&m) == None);
+    assert!(rt; l.plus(&difference) == m);
+    assert!(rt; l.at_most(&m));
+    assert!(rt; l.order(&m) == std::cmp::Ordering::Less);
+    assert_eq!(rt; m.total(), 3);
+    assert!(rt; Multi::zero().at_most(&l));
+}
+
+#[test]
+fn degrees_with_k(rt: HostRuntime) {
+    let below = Degree { a: -2, b: -1 };
+    let above = Degree { a: -2, b: 1 };
+    assert!(rt; below.order(&above) == std::cmp::Ordering::Less);
+    assert!(rt; below.plus(&above) == Degree { a: -4, b: 0 });
+}

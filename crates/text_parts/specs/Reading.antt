@@ -7,7 +7,7 @@
 --   nonzero_after c text == the byte c and a whole number that is not 0; 1 where the byte is not there
 --   if_there found there without == `there` of what follows, where something was found, else `without`
 --   is_trimmed text == no space stands at the front or at the end of text
-use Rattle.std.specs.Prelude.{ℕ, ◌-◌, ◌^◌, ◌==◌, Bool, true, false, not, ◌&&◌, List, [], ◌∷◌, length, slice_index, drop, min, if◌then◌else◌, take, Option, None, Some}
+use Rattle.std.specs.Prelude.{ℕ, ◌-◌, ◌^◌, ◌==◌, Bool, true, not, ◌&&◌, List, [], ◌∷◌, length, slice_index, drop, min, if◌then◌else◌, take, Option, None, Some}
 use Rattle.std.specs.Char.{is_ascii_digit}
 use Rattle.std.specs.List.{prefix_len}
 use Rattle.std.specs.Str.Parse.{digits_value}

@@ -1,5 +1,4 @@
 use Rattle.std.proofs.Common.{arith}
-use Rattle.std.proofs.lemmas.Int.{ints}
 use Rattle.degree_numbers.proofs.Kept.{reduced_kept}
 use Rattle.degree_numbers.proofs.fraction.reduced.Goals as goal
 

@@ -1,4 +1,4 @@
-use Rattle.std.proofs.Common.{◌+◌, take, subst, sym}
+use Rattle.std.proofs.Common.{take, subst, sym}
 use Rattle.degree_numbers.specs.Fraction.{IsCommon}
 use Rattle.degree_numbers.specs.Units.{fractions}
 use Rattle.degree_numbers.proofs.Common.{none_yet, fractions_more}
