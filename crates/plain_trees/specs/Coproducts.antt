@@ -19,7 +19,7 @@
 --   extraction_coefficient ty t k == the sum of the splitting coefficients of the cuttings of t with these components and this quotient, of which all components are extracted
 --   recentring_coefficient ty t k == the sum of the splitting coefficients of the cuttings of t with this left and this right tree that recentre; the root counts as touched
 --   extraction_terms ty t, recentring_terms ty t == the pairs with a coefficient that is not 0, each with its coefficient, in order
-use Rattle.std.specs.Prelude.{ℕ, zero, suc, ◌+◌, ◌*◌, ◌/◌, Bool, true, false, cond, not, ◌&&◌, List, [], ◌∷◌, map, filter, length, unsigned_abs}
+use Rattle.std.specs.Prelude.{ℕ, zero, suc, ◌+◌, ◌/◌, Bool, true, false, cond, not, ◌&&◌, List, [], ◌∷◌, map, filter, length, unsigned_abs}
 use Rattle.std.specs.List.{list_all}
 use Rattle.std.specs.Ordering.{nat_cmp, ordering_then, is_eq, is_gt, is_lt}
 use Rattle.std.specs.Cmp.Lexicographic.{slice_cmp}

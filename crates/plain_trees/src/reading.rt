@@ -1,6 +1,9 @@
 // Trees are read from their texts.
-ghost use Rattle.std.specs.Prelude.{◌≡◌, ◌≤◌, IfOk, MatchOption, IsTrue, ◌↔◌, IsOkUnless, IfErr};
+ghost use Rattle.std.specs.Prelude.{◌≡◌, ◌≢◌, ◌≤◌, ℕ, List, IfOk, MatchOption, IsTrue, ◌↔◌, IsOkUnless, IfErr};
+ghost use Rattle.degree_numbers.specs.declared.types.Types.{Types};
 ghost use Rattle.degree_numbers.specs.Types.{AreTypes};
+ghost use Rattle.plain_trees.specs.declared.error.TreeError.{TreeError};
+ghost use Rattle.plain_trees.specs.declared.error.TreeError.TheVariants.{Memory};
 ghost use Rattle.plain_trees.specs.Plain.{Plain};
 ghost use Rattle.plain_trees.specs.Degree.{HasTypes};
 ghost use Rattle.plain_trees.specs.Reading.{IsTreeOf, PassesTests, IsRefused};
@@ -96,3 +99,11 @@ pub fn read_tree(alloc: Global, types: &Types, text: &[u8], most: u32) -> Result
     }
     read_passed(alloc, types, text, most)
 }
+
+/// What `read_tree` answers is determined by its clauses, but for want of memory: a text is that of one tree at most, a text that a tree has is not refused, and
+/// no text is refused in two ways.
+pub fn read_tree_laws()
+    ensures tree { (ty : Types) (most : ℕ) (text : List ℕ) (t u : Plain) → AreTypes ty → most ≤ 4096 → IsTreeOf ty most text t → IsTreeOf ty most text u → t ≡ u }
+    ensures tree_or_refusal { (ty : Types) (most : ℕ) (text : List ℕ) (t : Plain) (e : TreeError) → AreTypes ty → most ≤ 4096 → IsTreeOf ty most text t → IsRefused ty most text e → e ≡ Memory }
+    ensures refusal { (ty : Types) (most : ℕ) (text : List ℕ) (e f : TreeError) → IsRefused ty most text e → IsRefused ty most text f → e ≢ Memory → f ≢ Memory → e ≡ f }
+{}

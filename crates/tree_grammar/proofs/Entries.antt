@@ -70,5 +70,5 @@ unfolding entry_value
 decimal_value n fits =
     let told = decimal_is_IsNumeral n (omega arith) in
     let all : take_while is_ascii_digit (decimal n) ≡ decimal n =
-        ap (take_while is_ascii_digit) (sym (append-nil (decimal n))) ∙ digits_of (decimal n) [] (digit_bytes (decimal n) told.0.1) refl in
+    ap (take_while is_ascii_digit) (sym (append-nil (decimal n))) ∙ digits_of (decimal n) [] (digit_bytes (decimal n) told.0.1) refl in
     rw all (omega (arith, told.1))

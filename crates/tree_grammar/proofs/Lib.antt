@@ -8,3 +8,4 @@ pub mod WordSums
 pub mod Counts
 pub mod Entries
 pub mod Numbers
+pub mod PlaceUnique

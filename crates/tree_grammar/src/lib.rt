@@ -7,7 +7,7 @@ mod state;
 mod steps;
 mod words;
 
-pub use places::place;
+pub use places::{place, place_law};
 pub use steps::{name_byte, type_named};
 pub use words::{
     decorations_in, edges_in, entry_value, first_unknown, is_name, multi_at, word, word_laws,

@@ -1,4 +1,5 @@
-ghost use Rattle.std.specs.Prelude.{◌≡◌, ◌<◌, MatchOption};
+ghost use Rattle.std.specs.Prelude.{◌≡◌, ◌<◌, ℕ, List, MatchOption};
+ghost use Rattle.degree_numbers.specs.declared.types.Types.{Types};
 ghost use Rattle.tree_grammar.specs.Places.{IsPlace, IsTreeText};
 ghost use Rattle.tree_grammar.specs.Step.{place_in};
 
@@ -43,3 +44,7 @@ pub fn place(types: &Types, text: &[u8]) -> Option<usize>
         None => None,
     }
 }
+/// A text has one such place at most.
+pub fn place_law()
+    ensures { (ty : Types) (text : List ℕ) (i j : ℕ) → IsPlace ty text i → IsPlace ty text j → i ≡ j }
+{}
