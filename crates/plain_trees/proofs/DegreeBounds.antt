@@ -9,13 +9,13 @@ use Rattle.degree_numbers.specs.declared.types.TypeEntry.{TypeEntry}
 use Rattle.degree_numbers.specs.declared.degree.Degree.{Degree}
 use Rattle.degree_numbers.specs.Degree.{degree_plus, IsWithin}
 use Rattle.degree_numbers.specs.Multi.{scaled_size}
-use Rattle.degree_numbers.specs.Types.{AreTypes, type_degree}
+use Rattle.degree_numbers.specs.Types.{AreTypes, type_degree, size_in_units}
 use Rattle.degree_numbers.proofs.ScaledSizes.{scaled_size_most}
 use Rattle.degree_numbers.proofs.TypeBounds.{scaling_within, type_a_within, type_b_within}
 use Rattle.plain_trees.specs.declared.tree.Edge.{Edge, out-Edge, fold_out-Edge}
 use Rattle.plain_trees.specs.Plain.{Plain, bare, graft, edge_count_of, decoration_sum_of, IsSmall}
 use Rattle.std.proofs.lemmas.Nat.{mul-le}
-use Rattle.plain_trees.specs.Degree.{size_in_units, derivative_degree_of, edge_degree_of, degree_of}
+use Rattle.plain_trees.specs.Degree.{derivative_degree_of, edge_degree_of, degree_of}
 use Rattle.plain_trees.specs.View.{Labelled, labelled_at, plain_at, grafted, labelled, plain}
 
 abbrev pub a_bound : Plain → ℕ

@@ -29,9 +29,10 @@ use Rattle.exact_sums.specs.Keyed.{collected}
 use Rattle.degree_numbers.specs.declared.degree.Degree.{Degree}
 use Rattle.degree_numbers.specs.declared.types.Types.{Types}
 use Rattle.degree_numbers.specs.Degree.{degree_plus, degree_zero, degree_order}
+use Rattle.degree_numbers.specs.Types.{size_in_units}
 use Rattle.plain_trees.specs.Plain.{Plain, bare, graft, tree_order}
 use Rattle.plain_trees.specs.Canon.{canon}
-use Rattle.plain_trees.specs.Degree.{edge_degree_of, size_in_units, degree_of, planted}
+use Rattle.plain_trees.specs.Degree.{edge_degree_of, degree_of, planted}
 use Rattle.plain_trees.specs.Cutting.{Cutting, root_node, component, components, quotient, is_closed, splitting_coefficient, cuttings, cutting_sum}
 
 abbrev pub is_below_zero : Degree → Bool

@@ -1,5 +1,4 @@
 -- Degrees of trees, after Bruned, Hairer and Zambotti, and the trees over the types of a file.
---   size_in_units ty m == the scaled size |m|_s in the units of the degrees: times their common denominator
 --   derivative_degree_of ty p == -|p|_s
 --   edge_degree_of ty k p == the degree |k| - |p|_s of an edge of type k with derivative decoration p
 --   node_degree_of ty n == the degree |n|_s of a node decorated by n
@@ -12,7 +11,7 @@
 --   IsMultiIndex dims m == m has five entries, and those past the number of directions are 0
 --   IsEdge ty k p child == type k is in the list, p is a multiindex, and an edge of a noise ends in the empty tree
 --   HasTypes ty t == so it is with each edge of t, and the decoration of each node is a multiindex
-use Rattle.std.specs.Prelude.{ℕ, ◌≡◌, ◌<◌, ◌&&◌, Bool, true, false, pos, neg_ℤ, unsigned_abs, ◌*◌, List, [], ◌∷◌, length, drop}
+use Rattle.std.specs.Prelude.{ℕ, ◌≡◌, ◌<◌, ◌&&◌, Bool, true, false, pos, neg_ℤ, List, [], ◌∷◌, length, drop}
 use Rattle.std.specs.List.{AllByRecursion}
 use Rattle.std.specs.declared.option.Option.{Option}
 use Rattle.std.specs.declared.option.Option.TheVariants.{Some, None}
@@ -21,12 +20,9 @@ use Rattle.degree_numbers.specs.declared.types.Types.{Types}
 use Rattle.degree_numbers.specs.declared.types.Kind.{Kind}
 use Rattle.degree_numbers.specs.declared.types.Kind.TheVariants.{Noise, Kernel}
 use Rattle.degree_numbers.specs.Degree.{degree_plus}
-use Rattle.degree_numbers.specs.Multi.{is_zero, scaled_size}
-use Rattle.degree_numbers.specs.Types.{type_degree, kind_of}
+use Rattle.degree_numbers.specs.Multi.{is_zero}
+use Rattle.degree_numbers.specs.Types.{type_degree, size_in_units, kind_of}
 use Rattle.plain_trees.specs.Plain.{Plain, bare, graft}
-
-abbrev pub size_in_units : Types → List ℕ → ℕ
-size_in_units ty m = unsigned_abs ty.units.den * scaled_size ty.scaling m
 
 abbrev pub derivative_degree_of : Types → List ℕ → Degree
 derivative_degree_of ty p = record { a = neg_ℤ (pos (size_in_units ty p)); b = pos 0 }

@@ -1,8 +1,8 @@
 // Degrees of trees, and planted trees.
 ghost use Rattle.std.specs.Prelude.{◌≡◌, ◌↔◌, ◌<◌, ◌≤◌, ℕ, pos, true, length, sum};
 ghost use Rattle.degree_numbers.specs.declared.types.Types.{Types};
-ghost use Rattle.degree_numbers.specs.Types.{AreTypes, type_degree};
-ghost use Rattle.plain_trees.specs.Degree.{degree_of, size_in_units, derivative_degree_of, edge_degree_of, node_degree_of, planted, is_kernel, IsPlanted, HasTypes};
+ghost use Rattle.degree_numbers.specs.Types.{AreTypes, type_degree, size_in_units};
+ghost use Rattle.plain_trees.specs.Degree.{degree_of, derivative_degree_of, edge_degree_of, node_degree_of, planted, is_kernel, IsPlanted, HasTypes};
 ghost use Rattle.plain_trees.specs.Canon.{IsSame};
 ghost use Rattle.plain_trees.specs.Plain.{Plain, IsSmall};
 ghost use Rattle.plain_trees.specs.View.{plain};

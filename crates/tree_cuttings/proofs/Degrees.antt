@@ -9,9 +9,9 @@ use Rattle.exact_sums.specs.Sums.{counted_if}
 use Rattle.degree_numbers.specs.declared.degree.Degree.{Degree}
 use Rattle.degree_numbers.specs.declared.types.Types.{Types}
 use Rattle.degree_numbers.specs.Multi.{plus_of, scaled_size}
-use Rattle.degree_numbers.specs.Types.{IsScaling}
+use Rattle.degree_numbers.specs.Types.{IsScaling, size_in_units}
 use Rattle.plain_trees.specs.Plain.{Plain, bare, graft}
-use Rattle.plain_trees.specs.Degree.{size_in_units, edge_degree_of, degree_of}
+use Rattle.plain_trees.specs.Degree.{edge_degree_of, degree_of}
 use Rattle.plain_trees.specs.Coproducts.{is_below_zero, is_above_zero, positive_size}
 use Rattle.tree_cuttings.specs.Roots.{raised}
 
