@@ -1,0 +1,2 @@
+mod KernelRows
+mod TextLemmas

@@ -1,0 +1,24 @@
+use Rattle.std.proofs.Common.{◌∙◌, ap, Err}
+use Rattle.workbench_cli.specs.declared.refusal.Refusal.TheVariants.{NotSubcritical}
+use Rattle.workbench_cli.specs.Verdict.{node_text_in}
+use Rattle.workbench_cli.proofs.KernelRows.{failing_text}
+use Rattle.workbench_cli.proofs.verdict.not_subcritical.Goals as goal
+
+pub returns : goal.returns
+returns c =
+    let f = c.args.failure.now in
+    let types = c.args.eq.now.types in
+    let kernel = c.in_ok-from_slice.ensures ∙ c.kernel_name.ensures in
+    let found = c.from_vec.ensures ∙ c.in_ok-node_text.ensures ∙ ap (λ rows. node_text_in types rows f.kernel.0 f.node) c.as_slice.ensures in
+    let node = found ∙ failing_text c.args.eq.now c.args.rule.now f c.requires.equation c.requires.rows c.requires.failure in
+    let left = c.in_ok-from_slice-2.ensures ∙ c.bytes.ensures in
+    let right = c.in_ok-from_slice-3.ensures ∙ c.bytes-2.ensures in
+    record {
+      failure = f;
+      first = c.requires.failure;
+      left = c.side_text-left.result;
+      right = c.side_text-right.result;
+      left_text = c.side_text-left.ensures;
+      right_text = c.side_text-right.ensures;
+      answer = λ i. Err (NotSubcritical (kernel i) (node i) (left i) (right i));
+    }

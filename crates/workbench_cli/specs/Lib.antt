@@ -1,0 +1,3 @@
+pub mod CheckText
+pub mod Refusals
+pub mod Verdict
