@@ -1,6 +1,8 @@
 pub mod Equal
+pub mod ForestLaws
 pub mod Growth
 pub mod Ids
+pub mod JoinedLaws
 pub mod Makings
 pub mod Nodes
 pub mod Sorts

@@ -1,6 +1,5 @@
 // Forests of trees of a pool, in a list that is walked.
 ghost use Rattle.std.specs.Prelude.{◌≡◌, ◌≢◌, ◌<◌, ◌++◌, ◌∷◌, [], ◌↔◌, ℕ, List, length, slice_get, Some, IfOk, OnOk, OnErr, IsTrue, MatchOption};
-ghost use Rattle.tree_pool.specs.Content.{Content, IsGrown};
 ghost use Rattle.tree_pool.specs.Forests.{numbers, numbers_of, forests_of, forest_at, AreKnown, IsSorting, Fits, LacksForest, AreDistinct, IsGrownWith};
 
 use crate::error::PoolError;
@@ -165,9 +164,3 @@ impl<'a> ForestPool<'a> {
         let _ = &self.forests;
     }
 }
-
-/// A new forest pool fits every pool, and a forest pool that fits a pool still fits it when the pool has grown.
-pub fn fit_laws()
-    ensures new { (c : Content) → Fits [] c }
-    ensures growth { (fs : List (List ℕ)) (old new : Content) → IsGrown old new → Fits fs old → Fits fs new }
-{}

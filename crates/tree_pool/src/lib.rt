@@ -4,6 +4,7 @@
 mod degree;
 mod error;
 mod forest;
+mod laws;
 mod lists;
 mod made;
 mod node;
@@ -13,6 +14,7 @@ mod pool;
 mod sort;
 
 pub use error::PoolError;
-pub use forest::{ForestId, ForestPool, fit_laws};
+pub use forest::{ForestId, ForestPool};
+pub use laws::{fit_laws, forest_laws, product_laws};
 pub use node::{EdgeTo, TreeId};
 pub use pool::Pool;
