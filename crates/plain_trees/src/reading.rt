@@ -1,5 +1,5 @@
 // Trees are read from their texts.
-ghost use Rattle.std.specs.Prelude.{◌≡◌, ◌≢◌, ◌≤◌, ℕ, List, IfOk, MatchOption, IsTrue, ◌↔◌, IsOkUnless, IfErr};
+ghost use Rattle.std.specs.Prelude.{◌≡◌, ◌≢◌, ◌≤◌, ℕ, List, IfOk, IsTrue, ◌↔◌, IsOkUnless, IfErr};
 ghost use Rattle.degree_numbers.specs.declared.types.Types.{Types};
 ghost use Rattle.degree_numbers.specs.Types.{AreTypes};
 ghost use Rattle.plain_trees.specs.declared.error.TreeError.{TreeError};
@@ -21,30 +21,31 @@ use tree_grammar::{decorations_in, edges_in, first_unknown, place};
 
 const MOST_EDGES: u64 = 24;
 
-// The first fault that shows without building a tree.
-fn first_fault(types: &Types, text: &[u8], most: u32) -> Option<TreeError>
+// Whether a text passes the tests that need no tree, or else its first fault.
+fn check_text(types: &Types, text: &[u8], most: u32) -> Result<(), TreeError>
     requires { AreTypes types.now }
-    ensures { MatchOption result (PassesTests types.now most text.now) (λ e. IsRefused types.now most text.now e) }
+    ensures passes { IfOk result (λ _. PassesTests types.now most text.now) }
+    ensures refusal { IfErr result (λ e. IsRefused types.now most text.now e) }
 {
     if let Some(place) = place(types, text) {
-        return Some(TreeError::TreeText {
+        return Err(TreeError::TreeText {
             place: place as u64,
         });
     }
     if let Some(place) = first_unknown(types, text) {
-        return Some(TreeError::UnknownType {
+        return Err(TreeError::UnknownType {
             place: place as u64,
         });
     }
     let count = edges_in(text) as u64;
     if count > MOST_EDGES {
-        return Some(TreeError::TooManyEdges { count });
+        return Err(TreeError::TooManyEdges { count });
     }
     let total = decorations_in(text);
     if total > most {
-        return Some(TreeError::TooManyDecorations { total });
+        return Err(TreeError::TooManyDecorations { total });
     }
-    None
+    Ok(())
 }
 
 fn has_text(alloc: Global, types: &Types, t: &Tree, text: &[u8]) -> Result<bool, TreeError>
@@ -57,14 +58,13 @@ fn has_text(alloc: Global, types: &Types, t: &Tree, text: &[u8]) -> Result<bool,
     Ok(printed.as_slice() == text)
 }
 
-// Reads a text that passes the tests. The bound of its decorations is told for the contract alone.
-fn read_passed(alloc: Global, types: &Types, text: &[u8], most: u32) -> Result<Tree, TreeError>
+fn read_text(alloc: Global, types: &Types, text: &[u8], most: u32) -> Result<Tree, TreeError>
     requires types { AreTypes types.now }
     requires most { most ≤ 4096 }
-    requires tests { PassesTests types.now most text.now }
     ensures tree { IfOk result (λ t. IsTreeOf types.now most text.now (plain t)) }
     ensures refusal { IfErr result (λ e. IsRefused types.now most text.now e) }
 {
+    check_text(types, text, most)?;
     let t = build(alloc, types, text)?;
     if !is_canonical(&t) {
         return Err(TreeError::NotCanonical);
@@ -94,10 +94,7 @@ pub fn read_tree(alloc: Global, types: &Types, text: &[u8], most: u32) -> Result
     ensures refusal { IfErr result (λ e. IsRefused types.now most text.now e) }
     ensures back { (t : Plain) → IsTreeOf types.now most text.now t → IsOkUnless result TreeError.Memory × IfOk result (λ u. plain u ≡ t) }
 {
-    if let Some(fault) = first_fault(types, text, most) {
-        return Err(fault);
-    }
-    read_passed(alloc, types, text, most)
+    read_text(alloc, types, text, most)
 }
 
 /// What `read_tree` answers is determined by its clauses, but for want of memory: a text is that of one tree at most, a text that a tree has is not refused, and

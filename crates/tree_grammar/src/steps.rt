@@ -7,6 +7,7 @@ use crate::name_bytes::NameBytes;
 use crate::state::{At, State};
 use degree_numbers::{Kind, Types};
 
+/// Whether this byte is a letter, a digit or `_`.
 pub fn name_byte(b: u8) -> bool
     ensures { result ≡ is_name_byte b }
 {

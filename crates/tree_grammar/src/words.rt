@@ -116,7 +116,8 @@ pub fn multi_at(text: &[u8]) -> Multi
     }
 }
 
-/// What the words of a written tree's text say of it: they count its edges, sum up its decorations, and show whether a name is that of no type.
+/// What the words of a written tree's text say of it: they count its edges, sum up its decorations, give the entries of a multiindex, and show whether a name is
+/// that of no type.
 pub fn word_laws()
     ensures edges { (ty : Types) (t : Written) → 0 < ty.dims → IsGrammatical ty t → edges_in (written_text t) ≡ edges_of t }
     ensures decorations { (ty : Types) (t : Written) → 0 < ty.dims → IsGrammatical ty t → decorations_in (written_text t) ≡ min (decorations_of t) (2 ^ 32 - 1) }
