@@ -1,4 +1,5 @@
 pub mod EdgeTypeLaws
+pub mod ItemSteps
 pub mod LeastCommon
 pub mod FirstOfLemmas
 pub mod PlacedLemmas

@@ -4,6 +4,8 @@ pub mod DegreeEntry
 pub mod Denominator
 pub mod EdgeTypes
 pub mod FirstOf
+pub mod Gives
 pub mod Names
 pub mod Products
+pub mod Reading
 pub mod Terms

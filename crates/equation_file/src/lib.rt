@@ -4,11 +4,14 @@
 mod collect;
 mod degree_entry;
 mod denominator;
+mod document;
 mod edge_types;
 mod equation;
+mod fault;
 mod names;
 mod product;
 mod resolve;
+mod tables;
 mod terms;
 
 pub use edge_types::{edge_type_laws, edge_type_order};

@@ -1,0 +1,32 @@
+// What a file holds.
+use crate::degree_entry::DegreeEntry;
+use crate::names::Names;
+use degree_numbers::Name;
+use right_side_text::WrittenTerm;
+use sqlite_items::Items;
+
+/// A noise as a file writes it. Without a group of its own it is in the group that is named as it is.
+#[derive(Debug, Drop)]
+pub struct NoiseEntry {
+    pub name: Name,
+    pub degree: DegreeEntry,
+    pub group: Name,
+}
+
+/// An unknown as a file writes it, without its right side.
+#[derive(Debug, Drop)]
+pub struct UnknownEntry {
+    pub name: Name,
+    pub degree: DegreeEntry,
+    pub regularity: DegreeEntry,
+}
+
+/// What a file holds: its scaling, all its names, its noises, its unknowns and their right sides, in file order.
+#[derive(Debug, Drop)]
+pub struct Document {
+    pub scaling: Items<u64>,
+    pub names: Names,
+    pub noises: Items<NoiseEntry>,
+    pub unknowns: Items<UnknownEntry>,
+    pub rights: Items<Items<WrittenTerm>>,
+}
