@@ -3,3 +3,4 @@ pub mod ItemSteps
 pub mod LeastCommon
 pub mod FirstOfLemmas
 pub mod PlacedLemmas
+pub mod Folds

@@ -5,6 +5,7 @@ pub mod Denominator
 pub mod EdgeTypes
 pub mod FirstOf
 pub mod Gives
+pub mod Limits
 pub mod Names
 pub mod Products
 pub mod Reading

@@ -8,6 +8,7 @@ mod document;
 mod edge_types;
 mod equation;
 mod fault;
+mod limits;
 mod names;
 mod product;
 mod resolve;
