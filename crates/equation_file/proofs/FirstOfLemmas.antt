@@ -4,7 +4,7 @@ use Rattle.std.specs.Option.{option_or}
 use Rattle.std.proofs.lemmas.Bool.Decides.{nat_tests}
 use Rattle.equation_file.specs.FirstOf.{over, first_of}
 
-neither : (a b : Option ℕ) → option_or a b ≡ None → (a ≡ None) × (b ≡ None)
+pub neither : (a b : Option ℕ) → option_or a b ≡ None → (a ≡ None) × (b ≡ None)
 neither None b h = (refl, h)
 neither (Some n) b h = search
 
@@ -19,3 +19,8 @@ within most n h = grind (arith, nat_tests)
 
 pub none_over : (most : ℕ) (xs : List ℕ) (i : ℕ) → first_of (over most) xs ≡ None → i < length xs → slice_index xs i ≤ most
 none_over most xs i h lt = within most (slice_index xs i) (none_at (over most) xs i 0 h lt)
+
+pub none_index : (most : ℕ) (xs : List ℕ) (i : ℕ) → first_of (over most) xs ≡ None → slice_index xs i ≤ most
+none_index most [] i h = omega arith
+none_index most (x ∷ xs) zero h = within most x (neither (over most x) (first_of (over most) xs) h).0
+none_index most (x ∷ xs) (suc i) h = none_index most xs i (neither (over most x) (first_of (over most) xs) h).1

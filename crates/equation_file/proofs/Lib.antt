@@ -4,3 +4,5 @@ pub mod LeastCommon
 pub mod FirstOfLemmas
 pub mod PlacedLemmas
 pub mod Folds
+pub mod LimitFacts
+pub mod UnknownSteps

@@ -1,11 +1,15 @@
 pub mod Accepted
+pub mod Answer
 pub mod Collect
+pub mod Counted
 pub mod DegreeEntry
 pub mod Denominator
 pub mod EdgeTypes
+pub mod File
 pub mod FirstOf
 pub mod Gives
 pub mod Limits
+pub mod Meaning
 pub mod Names
 pub mod Products
 pub mod Reading

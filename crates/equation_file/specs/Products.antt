@@ -1,6 +1,7 @@
 -- Written terms with their names resolved.
 --   placed c xs x == the list xs with x behind those that are not greater, by the order c
 --   placed_often n c xs x == the same with x put in n times
+--   five xs == the first five numbers of xs, with 0 behind them
 --   multi_of entries == the multiindex with these entries, and 0 behind them
 --   is_parameter names f == the name of f is that of a parameter
 --   edge_type_of names f == the type of a noise or an unknown, and the derivative
@@ -28,9 +29,11 @@ abbrev pub placed_often : {X : Type 0} → ℕ → (X → X → Ordering) → Li
 placed_often zero c xs x = xs
 placed_often (suc n) c xs x = placed_often n c (placed c xs x) x
 
+abbrev pub five : List ℕ → List ℕ
+five xs = slice_index xs 0 ∷ slice_index xs 1 ∷ slice_index xs 2 ∷ slice_index xs 3 ∷ slice_index xs 4 ∷ []
+
 abbrev pub multi_of : List ℕ → Multi
-multi_of entries =
-    record { entries = slice_index entries 0 ∷ slice_index entries 1 ∷ slice_index entries 2 ∷ slice_index entries 3 ∷ slice_index entries 4 ∷ [] }
+multi_of entries = record { entries = five entries }
 
 abbrev pub is_parameter : Names → WrittenFactor → Bool
 is_parameter names f = nat_lt (place_of names.list f.name) names.first_noise

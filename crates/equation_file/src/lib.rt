@@ -1,6 +1,7 @@
 //! Equation files: from the bytes of a file to the equation that it writes down.
 #![tactic(auto)]
 
+mod build;
 mod collect;
 mod degree_entry;
 mod denominator;
@@ -11,9 +12,13 @@ mod fault;
 mod limits;
 mod names;
 mod product;
+mod read;
+mod refusal;
 mod resolve;
 mod tables;
 mod terms;
 
 pub use edge_types::{edge_type_laws, edge_type_order};
 pub use equation::{Equation, RightTerm, Unknown};
+pub use read::read_equation;
+pub use refusal::FileRefusal;

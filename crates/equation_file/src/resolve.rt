@@ -1,11 +1,11 @@
 // Written terms with their names resolved.
-ghost use Rattle.std.specs.Prelude.{◌≡◌, ◌≤◌, ◌<◌, None, length, slice_index, not, IfOk, OnOk};
+ghost use Rattle.std.specs.Prelude.{ℕ, ◌≡◌, ◌≤◌, ◌<◌, None, length, slice_index, not, IfOk, OnOk};
 ghost use Rattle.std.specs.List.{prefix_len};
 ghost use Rattle.std.specs.Ordering.{nat_cmp, is_gt};
 ghost use Rattle.equation_file.specs.EdgeTypes.{edge_type_order};
 ghost use Rattle.equation_file.specs.FirstOf.{over, first_of};
 ghost use Rattle.equation_file.specs.Names.{place_of};
-ghost use Rattle.equation_file.specs.Products.{placed, placed_often, multi_of, is_parameter, edge_type_of, with_parameter, with_factor, parameters_of, factors_of, product_of, products};
+ghost use Rattle.equation_file.specs.Products.{placed, placed_often, five, multi_of, is_parameter, edge_type_of, with_parameter, with_factor, parameters_of, factors_of, product_of, products};
 ghost use Rattle.equation_file.specs.Terms.{factor_derivative, term_derivative};
 
 use crate::edge_types::edge_type_order;
@@ -85,7 +85,7 @@ fn place_factor_often(
 }
 
 fn entry_at(entries: &[u64], at: usize) -> u32
-    requires { first_of (over 8) entries.now ≡ None }
+    requires { slice_index entries.now at ≤ 10 }
     ensures { result ≡ slice_index entries.now at }
 {
     if at < entries.len() {
@@ -95,18 +95,26 @@ fn entry_at(entries: &[u64], at: usize) -> u32
     }
 }
 
+/// The first five numbers, with 0 behind them.
+pub fn five(numbers: &[u64]) -> [u32; 5]
+    requires { (i : ℕ) → slice_index numbers.now i ≤ 10 }
+    ensures { result ≡ five numbers.now }
+{
+    [
+        entry_at(numbers, 0),
+        entry_at(numbers, 1),
+        entry_at(numbers, 2),
+        entry_at(numbers, 3),
+        entry_at(numbers, 4),
+    ]
+}
+
 fn multi_of(entries: &[u64]) -> Multi
     requires { first_of (over 8) entries.now ≡ None }
     ensures { result ≡ multi_of entries.now }
 {
     Multi {
-        entries: [
-            entry_at(entries, 0),
-            entry_at(entries, 1),
-            entry_at(entries, 2),
-            entry_at(entries, 3),
-            entry_at(entries, 4),
-        ],
+        entries: five(entries),
     }
 }
 
