@@ -6,3 +6,4 @@ pub mod PlacedLemmas
 pub mod Folds
 pub mod LimitFacts
 pub mod UnknownSteps
+pub mod ReadFacts

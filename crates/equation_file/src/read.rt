@@ -81,8 +81,9 @@ fn only_table(values: &[Value]) -> Option<&Table>
     ensures { option_map (λ t. table_view t.now) result ≡ only_table (items_view values.now) }
 {
     match values {
+        [] => None,
         [value] => value.as_table(),
-        _ => None,
+        [_, _, ..] => None,
     }
 }
 
@@ -104,10 +105,16 @@ fn has_few(term: &WrittenTerm) -> bool
     power_of(term) <= 4
 }
 
+fn all_have_few(terms: &[WrittenTerm]) -> bool
+    ensures { result ≡ list_all has_few terms.now }
+{
+    terms.iter().all(|t| has_few(t))
+}
+
 fn are_few(terms: &[WrittenTerm]) -> bool
     ensures { result ≡ are_few terms.now }
 {
-    terms.len() <= 4 && terms.iter().all(|t| has_few(t))
+    terms.len() <= 4 && all_have_few(terms)
 }
 
 fn have_few(rights: &[Items<WrittenTerm>]) -> bool
