@@ -5,7 +5,7 @@ use Rattle.equation_file.specs.declared.document.Document.{Document}
 use Rattle.equation_file.specs.declared.fault.Fault.{Fault}
 use Rattle.equation_file.specs.declared.fault.Which.{Which}
 use Rattle.equation_file.specs.FirstOf.{over, first_of}
-use Rattle.equation_file.specs.Limits.{limit, noise_number, unknown_number, file_number, file_size, right_terms, units_of, denominator_of, counts_of, numbers_of, rights_of, limits_of}
+use Rattle.equation_file.specs.Limits.{limit, noise_number, unknown_number, file_size, right_terms, units_of, denominator_of, counts_of, numbers_of, rights_of, limits_of}
 use Rattle.equation_file.specs.Reading.{◌>>=◌}
 use Rattle.equation_file.specs.Terms.{term_number, term_factors, term_derivative}
 use Rattle.equation_file.proofs.FirstOfLemmas.{within, neither}

@@ -4,7 +4,7 @@
 --     its right side has no fraction, at most four terms, and in each at most four factors, counted with their powers
 --   equation_of bytes == the equation that the bytes write down: at most 65,536 bytes of UTF-8, which `toml` reads as the table of an accepted and narrow file
 use Rattle.std.specs.Option.{is_none}
-use Rattle.std.specs.Prelude.{ℕ, ◌==◌, Bool, true, false, not, ◌&&◌, nat_le, nat_lt, List, [], ◌∷◌, length, codes, if◌then◌else◌, Option, Some, None, Result, Ok, Err}
+use Rattle.std.specs.Prelude.{ℕ, ◌==◌, Bool, true, false, not, ◌&&◌, nat_le, nat_lt, List, length, codes, if◌then◌else◌, Option, Some, None, Result, Ok, Err}
 use Rattle.std.specs.List.{list_all}
 use Rattle.std.specs.Str.{is_utf8}
 use Rattle.toml.specs.Data.{Data, Items, no_items, item, Members, get_member, as_array, as_str, as_table}

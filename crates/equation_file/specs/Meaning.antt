@@ -5,7 +5,7 @@
 --   unknown_of l q names k u right == the unknown with kernel k, whose right side is collected and cleared by q
 --   unknowns_from l q names k us rights == the unknowns with their right sides, whose kernels count from k
 --   document_equation doc == the equation, in units of one over the least common denominator of the degrees, cleared by that of the coefficients
-use Rattle.std.specs.Prelude.{ℕ, ◌+◌, pos, List, [], ◌∷◌, ◌++◌, length, map, take, slice_index, if◌then◌else◌, fold}
+use Rattle.std.specs.Prelude.{ℕ, ◌+◌, pos, List, [], ◌∷◌, ◌++◌, length, map, take, if◌then◌else◌, fold}
 use Rattle.degree_numbers.specs.declared.types.Kind.TheVariants.{Noise, Kernel}
 use Rattle.degree_numbers.specs.declared.types.TypeEntry.{TypeEntry}
 use Rattle.degree_numbers.specs.declared.types.Types.{Types}

@@ -15,9 +15,13 @@ use sqlite_items::Items;
 use std::alloc::{AllocError, Global};
 
 const MOST_DIMENSIONS: u64 = 5;
+
 const LARGEST_SCALING: u64 = 10;
+
 const MOST_NAMES: u64 = 8;
+
 const LARGEST_DENOMINATOR: u64 = 1_000_000;
+
 const MOST_TERMS: u64 = 64;
 
 fn limit(which: Which, found: Option<u64>) -> Result<(), ReadError>
@@ -255,11 +259,23 @@ fn counts_of(document: &Document) -> Result<(), ReadError>
     ensures { Gives (λ x. x) result (counts_of document.now) }
 {
     let scaling = document.scaling.as_slice();
-    limit(Which::Dimensions, over(MOST_DIMENSIONS, scaling.len() as u64))?;
+    limit(
+        Which::Dimensions,
+        over(MOST_DIMENSIONS, scaling.len() as u64),
+    )?;
     limit(Which::Scaling, first_over(LARGEST_SCALING, scaling))?;
-    limit(Which::Parameters, over(MOST_NAMES, document.names.first_noise as u64))?;
-    limit(Which::Noises, over(MOST_NAMES, document.noises.len() as u64))?;
-    limit(Which::Unknowns, over(MOST_NAMES, document.unknowns.len() as u64))
+    limit(
+        Which::Parameters,
+        over(MOST_NAMES, document.names.first_noise as u64),
+    )?;
+    limit(
+        Which::Noises,
+        over(MOST_NAMES, document.noises.len() as u64),
+    )?;
+    limit(
+        Which::Unknowns,
+        over(MOST_NAMES, document.unknowns.len() as u64),
+    )
 }
 
 // The limits on numbers and degrees.

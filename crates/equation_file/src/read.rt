@@ -56,9 +56,7 @@ fn is_narrow_noise(table: Option<&Table>) -> bool
 {
     match table {
         None => false,
-        Some(table) => {
-            value_at(table, "group").is_none() && text_without(b' ', "degree", table)
-        }
+        Some(table) => { value_at(table, "group").is_none() && text_without(b' ', "degree", table) }
     }
 }
 

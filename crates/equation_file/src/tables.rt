@@ -218,12 +218,7 @@ fn parameters_of(alloc: Global, value: Option<&Value>) -> Result<Items<Name>, Re
 }
 
 #[tactic(auto, unfolding(crate::specs::Reading::table_of))]
-fn table_of(
-    section: Section,
-    set: KeySet,
-    at: usize,
-    value: &Value,
-) -> Result<&Table, ReadError>
+fn table_of(section: Section, set: KeySet, at: usize, value: &Value) -> Result<&Table, ReadError>
     ensures { Gives (λ t. table_view t.now) result (table_of section set at (view value.now)) }
 {
     let entry = Entry::Item(section, at);
@@ -303,11 +298,7 @@ fn noise_of(at: usize, seen: &[Name], value: &Value) -> Result<NoiseEntry, ReadE
     })
 }
 
-fn noises_from(
-    alloc: Global,
-    seen: Items<Name>,
-    values: &[Value],
-) -> Result<FoundNoises, ReadError>
+fn noises_from(alloc: Global, seen: Items<Name>, values: &[Value]) -> Result<FoundNoises, ReadError>
     ensures { Gives (λ v. (v.seen, v.found)) result (noises_from 1 seen [] (items_view values.now)) }
 {
     let mut seen = seen;

@@ -1,4 +1,4 @@
-use Rattle.std.proofs.Common.{◌≡◌, ◌<◌, length, ap, sym, ◌∙◌, arith, ◌+◌, ◌++◌}
+use Rattle.std.proofs.Common.{◌≡◌, ◌<◌, length, ap, ◌∙◌, arith, ◌+◌}
 use Rattle.equation_file.specs.FirstOf.{first_of}
 use Rattle.equation_file.specs.Limits.{unknown_number, right_terms}
 use Rattle.equation_file.specs.Terms.{term_derivative}

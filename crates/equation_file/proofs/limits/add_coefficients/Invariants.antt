@@ -1,5 +1,4 @@
 use Rattle.std.proofs.Common.{◌≡◌, ◌++◌, ◌∷◌, [], take, fold}
-use Rattle.equation_file.specs.Limits.{noise_fractions, unknown_fractions, with_coefficients}
 use Rattle.equation_file.proofs.limits.add_coefficients.Given as goal
 
 abbrev pub invariant-loop-term : goal.invariant-loop-term

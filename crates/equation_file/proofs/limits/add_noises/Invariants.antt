@@ -1,5 +1,5 @@
-use Rattle.std.proofs.Common.{◌≡◌, ◌++◌, ◌∷◌, [], take, fold}
-use Rattle.equation_file.specs.Limits.{noise_fractions, unknown_fractions, with_coefficients}
+use Rattle.std.proofs.Common.{◌≡◌, take, fold}
+use Rattle.equation_file.specs.Limits.{noise_fractions}
 use Rattle.equation_file.proofs.limits.add_noises.Given as goal
 
 abbrev pub invariant-loop-noise : goal.invariant-loop-noise

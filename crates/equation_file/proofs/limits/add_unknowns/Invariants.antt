@@ -1,5 +1,5 @@
-use Rattle.std.proofs.Common.{◌≡◌, ◌++◌, ◌∷◌, [], take, fold}
-use Rattle.equation_file.specs.Limits.{noise_fractions, unknown_fractions, with_coefficients}
+use Rattle.std.proofs.Common.{◌≡◌, take, fold}
+use Rattle.equation_file.specs.Limits.{unknown_fractions}
 use Rattle.equation_file.proofs.limits.add_unknowns.Given as goal
 
 abbrev pub invariant-loop-unknown : goal.invariant-loop-unknown

@@ -1,5 +1,5 @@
-use Rattle.std.proofs.Common.{◌≡◌, ◌++◌, ◌∷◌, [], take, fold}
-use Rattle.equation_file.specs.Limits.{noise_fractions, unknown_fractions, with_coefficients}
+use Rattle.std.proofs.Common.{◌≡◌, [], take, fold}
+use Rattle.equation_file.specs.Limits.{with_coefficients}
 use Rattle.equation_file.proofs.limits.coefficients_of.Given as goal
 
 abbrev pub invariant-loop-right : goal.invariant-loop-right

@@ -1,7 +1,6 @@
 use Rattle.std.proofs.Common.{◌≡◌, drop}
 use Rattle.equation_file.specs.FirstOf.{first_of}
-use Rattle.equation_file.specs.Limits.{noise_number, unknown_number, noise_size, unknown_size, right_terms}
-use Rattle.equation_file.specs.Terms.{term_number, term_factors, term_derivative}
+use Rattle.equation_file.specs.Limits.{right_terms}
 use Rattle.equation_file.proofs.limits.rights_terms.Given as goal
 
 -- the first of all is the first of those that are left

@@ -14,5 +14,5 @@ pub returns : goal.returns
 returns c =
     let text = c.in-Ok.ensures.cases in
     let read : equation_of c.args.bytes.now ≡ table_equation (Some (table_view c.in-Ok-table_from_str.table)) =
-      equation-short c.args.bytes.now c.if-bytes-gt-MOST_BYTES.false text.1 ∙ ap table_equation (ap parse_document (sym text.0) ∙ c.in-Ok-table_from_str.ensures.ok) in
+    equation-short c.args.bytes.now c.if-bytes-gt-MOST_BYTES.false text.1 ∙ ap table_equation (ap parse_document (sym text.0) ∙ c.in-Ok-table_from_str.ensures.ok) in
     subst (λ r. IsAnswer r c.table_equation.result) (sym read) c.table_equation.ensures

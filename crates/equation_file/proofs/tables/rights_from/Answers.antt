@@ -1,7 +1,6 @@
-use Rattle.std.proofs.Common.{◌≡◌, ◌+◌, refl, sym, ◌∙◌, ap, subst, Ok, Err}
+use Rattle.std.proofs.Common.{◌+◌, refl, sym, ◌∙◌, ap}
 use Rattle.std.proofs.lemmas.Result.{err_from_is_err_and}
-use Rattle.toml.specs.View.{view}
-use Rattle.equation_file.specs.Reading.{rights_from, right_of}
+use Rattle.equation_file.specs.Reading.{rights_from}
 use Rattle.equation_file.proofs.ItemSteps.{items_at, items_over, fails_too}
 use Rattle.equation_file.proofs.tables.rights_from.Goals as goal
 
