@@ -22,3 +22,6 @@ pub use edge_types::{edge_type_laws, edge_type_order};
 pub use equation::{Equation, RightTerm, Unknown};
 pub use read::read_equation;
 pub use refusal::FileRefusal;
+
+#[cfg(test)]
+mod tests;
