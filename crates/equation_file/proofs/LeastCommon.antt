@@ -18,10 +18,10 @@ plain f = record { negative = f.negative; num = f.num; den = f.den }
 is_zero : (n : ℕ) → n ≡ 0 → (n == 0) ≡ true
 is_zero n h = grind (arith, nat_tests)
 
-zero_is : (n : ℕ) → (n == 0) ≡ true → n ≡ 0
+pub zero_is : (n : ℕ) → (n == 0) ≡ true → n ≡ 0
 zero_is n h = grind (arith, nat_tests)
 
-both : (a b : Bool) → (a && b) ≡ true → (a ≡ true) × (b ≡ true)
+pub both : (a b : Bool) → (a && b) ≡ true → (a ≡ true) × (b ≡ true)
 both true b h = (refl, h)
 both false b h = search
 
@@ -35,13 +35,13 @@ clear l (f ∷ fs) h =
     let t = both (clears l f) (clears_all l fs) h in
     (dvd_of_mod-eq-zero f.den (zero_is ((l * f.num) % f.den) t.0), clear l fs t.1)
 
-below : (n m : ℕ) → nat_lt n m ≡ true → n < m
+pub below : (n m : ℕ) → nat_lt n m ≡ true → n < m
 below n m e = grind (arith, nat_tests)
 
-not_below : (n m : ℕ) → nat_lt n m ≡ false → m ≤ n
+pub not_below : (n m : ℕ) → nat_lt n m ≡ false → m ≤ n
 not_below n m e = grind (arith, nat_tests)
 
-not_passed : (b : Bool) → not b ≡ false → b ≡ true
+pub not_passed : (b : Bool) → not b ≡ false → b ≡ true
 not_passed true h = refl
 not_passed false h = search
 
@@ -104,3 +104,30 @@ taken_more m fs i den f lt is same c =
 
 pub taken_all : (m : ℕ) (fs : List WrittenFraction) (i : ℕ) → length fs ≤ i → IsCommon m (map plain (take i fs)) → IsCommon m (map plain fs)
 taken_all m fs i le c = subst (λ xs. IsCommon m (map plain xs)) (take_all i fs le) c
+
+within_above : (m : ℕ) (fs : List WrittenFraction) → 0 < least_within m fs
+within_above m fs = omega arith
+
+-- a number that is found clears all
+cleared_within : (m : ℕ) (fs : List WrittenFraction) → least_within m fs < m + 1 → clears_all (least_within m fs) fs ≡ true
+cleared_within m fs le =
+    let k = prefix_len (λ l. not (clears_all l fs)) (range_with_len 1 m) in
+    let len : length (range_with_len 1 m) ≡ m = length-range_with_len 1 m in
+    let lt : k < m = omega (arith, le) in
+    let stops = prefix_len_stops (λ l. not (clears_all l fs)) (range_with_len 1 m) 0 (omega (arith, len, lt)) in
+    let place : get_or (range_with_len 1 m) k 0 ≡ 1 + k = get_or-range_with_len 1 m k 0 lt in
+    not_passed (clears_all (1 + k) fs) (sym (ap (λ l. not (clears_all l fs)) place) ∙ stops)
+
+pub least_above : (fs : List WrittenFraction) → 0 < least_common fs
+unfolding least_common
+least_above fs = within_above (most - 1) fs
+
+least_is : (fs : List WrittenFraction) → least_common fs ≡ least_within (most - 1) fs
+unfolding least_common
+least_is fs = refl
+
+clears_at : (m n : ℕ) (fs : List WrittenFraction) → n ≡ least_within m fs → n < m + 1 → ClearsAll n (map plain fs)
+clears_at m n fs is lt = subst (λ l. ClearsAll l (map plain fs)) (sym is) (clear (least_within m fs) fs (cleared_within m fs (subst (λ l. l < m + 1) is lt)))
+
+pub least_clears : (fs : List WrittenFraction) → least_common fs < most → ClearsAll (least_common fs) (map plain fs)
+least_clears fs lt = clears_at (most - 1) (least_common fs) fs (least_is fs) lt

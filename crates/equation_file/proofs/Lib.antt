@@ -7,3 +7,15 @@ pub mod Folds
 pub mod LimitFacts
 pub mod UnknownSteps
 pub mod ReadFacts
+pub mod DocumentRead
+pub mod PlacedLaws
+pub mod AcceptedRights
+pub mod TermFacts
+pub mod DegreeFacts
+pub mod NameFacts
+pub mod DocumentFacts
+pub mod Everywhere
+pub mod GroupLemmas
+pub mod ClearedDegrees
+pub mod AcceptedTypes
+pub mod AcceptedEquation

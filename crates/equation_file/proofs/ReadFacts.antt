@@ -29,7 +29,7 @@ or_else : {A : Type 0} → A → Result A Fault → A
 or_else d (Ok a) = a
 or_else d (Err e) = d
 
-same_value : {A : Type 0} (a b : A) → ◌≡◌ {A = Result A Fault} (Ok a) (Ok b) → a ≡ b
+pub same_value : {A : Type 0} (a b : A) → ◌≡◌ {A = Result A Fault} (Ok a) (Ok b) → a ≡ b
 unfolding or_else
 same_value a b h = ap (or_else a) h
 

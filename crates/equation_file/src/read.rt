@@ -1,8 +1,9 @@
 // Files, from bytes to equations.
-ghost use Rattle.std.specs.Prelude.{◌≡◌, codes, not, ◌==◌, OnOk, option_map};
+ghost use Rattle.std.specs.Prelude.{◌≡◌, codes, not, ◌==◌, IfOk, OnOk, option_map};
 ghost use Rattle.std.specs.List.{list_all};
 ghost use Rattle.toml.specs.Data.{get_member};
 ghost use Rattle.toml.specs.View.{view, items_view, table_view};
+ghost use Rattle.equation_file.specs.Accepted.{IsEquation};
 ghost use Rattle.equation_file.specs.Answer.{IsAnswer};
 ghost use Rattle.equation_file.specs.File.{accepted, without, text_without, is_narrow_noise, is_narrow_unknown, only_table, items_of, has_few, are_few, is_narrow, narrow_equation, equation_of};
 ghost use Rattle.equation_file.specs.Gives.{Gives};
@@ -147,8 +148,8 @@ fn table_equation(alloc: Global, table: &Table) -> Result<Equation, FileRefusal>
     }
 }
 
-/// The equation that the bytes of a file write down. The refusals are Unbuilt exactly where the bytes are not an accepted and narrow file, and Memory.
-pub fn read_equation(alloc: Global, bytes: &[u8]) -> Result<Equation, FileRefusal>
+// The equation of the bytes, or why there is none.
+fn equation_of(alloc: Global, bytes: &[u8]) -> Result<Equation, FileRefusal>
     ensures { IsAnswer (equation_of bytes.now) result }
 {
     if bytes.len() > MOST_BYTES {
@@ -167,4 +168,13 @@ pub fn read_equation(alloc: Global, bytes: &[u8]) -> Result<Equation, FileRefusa
         }
     };
     table_equation(alloc, &table)
+}
+
+/// The equation that the bytes of a file write down. It is within all limits of a file. The refusals are Unbuilt exactly where the bytes are not an accepted and
+/// narrow file, and Memory.
+pub fn read_equation(alloc: Global, bytes: &[u8]) -> Result<Equation, FileRefusal>
+    ensures answer { IsAnswer (equation_of bytes.now) result }
+    ensures equation { IfOk result (λ eq. IsEquation eq) }
+{
+    equation_of(alloc, bytes)
 }
