@@ -1,2 +1,5 @@
+mod Answers
+mod FileLemmas
 mod KernelRows
+mod Statuses
 mod TextLemmas

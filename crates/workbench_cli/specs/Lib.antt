@@ -1,3 +1,6 @@
+pub mod Answer
+pub mod Check
 pub mod CheckText
 pub mod Refusals
 pub mod Verdict
+pub mod Words

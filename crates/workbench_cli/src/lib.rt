@@ -1,12 +1,16 @@
-//! The check of an equation: the verdict on its normal rule, as the text that the program prints or the line of a refusal.
+//! All that the program does: its words, the check of a file, and the top call `workbench`, over any files and places to write to.
 #![tactic(auto)]
 
+mod check;
 mod lines;
 mod refusal;
 mod text;
+mod top;
 mod verdict;
+mod words;
 
 pub use lines::print_refusal;
 pub use refusal::Refusal;
 pub use text::check_text;
+pub use top::{Status, workbench};
 pub use verdict::verdict_on;
