@@ -4,6 +4,8 @@
 mod check;
 mod lines;
 mod refusal;
+#[cfg(test)]
+mod tests;
 mod text;
 mod top;
 mod verdict;

@@ -1,0 +1,126 @@
+ghost use Rattle.std.specs.Prelude.{IfOk};
+ghost use Rattle.wb_outside.specs.Texts.{AreDistinct};
+
+use super::*;
+use std::alloc::{AllocError, Global};
+use std::test::Fail;
+use wb_outside::{MemoryFiles, MemorySink, NamedText, OutsideError};
+
+const PHI4_2D: &str =
+    "version = 1\nscaling = [2, 1, 1]\n[[noise]]\nname = \"xi\"\ndegree = \"-2-k\"\n[[unknown]]\nname = \"u\"\ndegree = \"2\"\nregularity = \"-1/2\"\nright = \"-u^3+xi\"\n";
+
+const PHI4_2D_TEXT: &str =
+    "accepted\nrule u 5\n  1: -1/2 < 2\n  xi: -1/2 < 0\n  u: -1/2 < 3/2\n  u*u: -1/2 < 1\n  u*u*u: -1/2 < 1/2\ngap 1/2\n";
+
+// In four dimensions the cubic term is too rough for any regularity.
+const PHI4_4D: &str =
+    "version = 1\nscaling = [2, 1, 1, 1, 1]\n[[noise]]\nname = \"xi\"\ndegree = \"-3-k\"\n[[unknown]]\nname = \"u\"\ndegree = \"2\"\nregularity = \"REGULARITY\"\nright = \"-u^3+xi\"\n";
+
+const KPZ: &str =
+    "version = 1\nscaling = [2, 1]\n[[noise]]\nname = \"xi\"\ndegree = \"-3/2-k\"\n[[unknown]]\nname = \"u\"\ndegree = \"2\"\nregularity = \"1/2\"\nright = \"u'(0,1)^2+xi\"\n";
+
+// What a run of the program left.
+#[derive(Debug, PartialEq, Eq, Drop)]
+struct Run {
+    code: u8,
+    out: Vec<u8>,
+    err: Vec<u8>,
+}
+
+// One text by its name.
+#[tactic(auto, using(wb_outside::proofs::TextLemmas::distinct_one))]
+fn one_text(alloc: Global, name: &str, text: &str) -> Result<Vec<NamedText>, AllocError>
+    ensures { IfOk result (λ texts. AreDistinct texts.items) }
+{
+    let name = name.as_bytes().to_vec(alloc)?;
+    let bytes = text.as_bytes().to_vec(alloc)?;
+    let mut texts = Vec::new(alloc);
+    texts.push(NamedText { name, bytes })?;
+    Ok(texts)
+}
+
+// The words of a command line, which spaces part.
+fn words_of(alloc: Global, line: &str) -> Result<Vec<String>, AllocError> {
+    let mut words = Vec::new(alloc);
+    for word in line.split_whitespace() {
+        words.push(String::from_str(alloc, word)?)?;
+    }
+    Ok(words)
+}
+
+// The program over one file, which is named `file`. The calls with these numbers fail.
+fn run_program(
+    alloc: Global,
+    line: &str,
+    text: &str,
+    failing_reads: &[u64],
+    failing_writes: &[u64],
+) -> Result<Run, OutsideError> {
+    let words = words_of(alloc, line)?;
+    let texts = one_text(alloc, "file", text)?;
+    let mut files = MemoryFiles::new(alloc, texts, failing_reads.to_vec(alloc)?);
+    let mut out = MemorySink::new(alloc, 1000, failing_writes.to_vec(alloc)?)?;
+    let mut err = MemorySink::new(alloc, 1000, Vec::new(alloc))?;
+    let status = workbench(alloc, &words, &mut files, &mut out, &mut err);
+    Ok(Run {
+        code: status.code,
+        out: out.bytes().to_vec(alloc)?,
+        err: err.bytes().to_vec(alloc)?,
+    })
+}
+
+#[test]
+fn equations_are_accepted_or_refused(rt: HostRuntime) -> Result<(), Fail> {
+    for (text, regularity, code, out, err) in [
+        (PHI4_2D, "", 0, PHI4_2D_TEXT, ""),
+        (
+            PHI4_4D,
+            "-1",
+            6,
+            "",
+            "refused 6 NotSubcritical u xi -1 -1\n",
+        ),
+        (
+            PHI4_4D,
+            "-3/2",
+            6,
+            "",
+            "refused 6 NotSubcritical u u*u*u -3/2 -5/2\n",
+        ),
+        (KPZ, "", 6, "", "refused 6 NotSubcritical u xi 1/2 1/2\n"),
+        ("scalin", "", 18, "", "refused 18 Unbuilt\n"),
+    ] {
+        let text = text.replace(rt.alloc(), "REGULARITY", regularity)?;
+        let run = run_program(rt.alloc(), "check file", &text, &[], &[])?;
+        assert_eq!(rt; run.code, code);
+        assert_eq!(rt; run.out.as_slice(), out.as_bytes());
+        assert_eq!(rt; run.err.as_slice(), err.as_bytes());
+    }
+    Ok(())
+}
+
+#[test]
+fn other_words_are_refused(rt: HostRuntime) -> Result<(), Fail> {
+    for line in ["", "check", "chek file", "check -file", "check file file"] {
+        let run = run_program(rt.alloc(), line, PHI4_2D, &[], &[])?;
+        assert_eq!(rt; (run.code, run.out.len()), (2, 0), "{line}");
+        assert_eq!(rt; run.err.as_slice(), b"refused 2 Words\n".as_slice());
+    }
+    Ok(())
+}
+
+#[test]
+fn faults_of_files_and_sinks_are_told(rt: HostRuntime) -> Result<(), Fail> {
+    let unread = run_program(rt.alloc(), "check file", PHI4_2D, &[1], &[])?;
+    assert_eq!(rt; (unread.code, unread.out.len()), (3, 0));
+    assert_eq!(rt; unread.err.as_slice(), b"refused 3 FileFault\n".as_slice());
+    let absent = run_program(rt.alloc(), "check other", PHI4_2D, &[], &[])?;
+    assert_eq!(rt; absent.code, 3);
+    let unwritten = run_program(rt.alloc(), "check file", PHI4_2D, &[], &[1])?;
+    assert_eq!(rt; (unwritten.code, unwritten.out.len()), (15, 0));
+    assert_eq!(rt;
+        unwritten.err.as_slice(),
+        b"refused 15 WriteFault\n".as_slice()
+    );
+    Ok(())
+}
