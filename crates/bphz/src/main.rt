@@ -25,7 +25,11 @@ fn main(rt: HostRuntime) -> ExitCode {
     let words = match words_of(&rt) {
         Ok(words) => words,
         Err(code) => {
-            let line = if code == 2 { "refused 2 Words\n" } else { "refused 17 Memory\n" };
+            let line = if code == 2 {
+                "refused 2 Words\n"
+            } else {
+                "refused 17 Memory\n"
+            };
             let _ = err.write(line.as_bytes());
             return ExitCode::from(code);
         }

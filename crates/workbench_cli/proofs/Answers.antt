@@ -1,6 +1,6 @@
 -- Answers to `check`.
-use Rattle.std.proofs.Common.{◌≡◌, ◌≢◌, ◌⊎◌, inl, inr, ℕ, List, [], ◌∷◌, Option, None, Some, Result, Ok, Err, IfOk, IfErr, take, refl, sym, ap, ◌∙◌, subst, get_or}
-use Rattle.workbench_cli.specs.Answer.{Answer, of_check, of_write_fault, IsTold, IsAnswer, IsOfFile}
+use Rattle.std.proofs.Common.{◌≡◌, ◌⊎◌, inl, inr, ℕ, List, [], Option, None, Some, Result, Ok, Err, IfOk, IfErr, take, refl, sym, ap, ◌∙◌, subst, get_or}
+use Rattle.workbench_cli.specs.Answer.{Answer, of_check, of_write_fault, IsAnswer, IsOfFile}
 use Rattle.workbench_cli.specs.Check.{IsChecked}
 use Rattle.workbench_cli.specs.Words.{IsCheck}
 use Rattle.workbench_cli.proofs.FileLemmas.{checked_front}

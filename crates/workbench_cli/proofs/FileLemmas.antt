@@ -1,5 +1,5 @@
 -- What a file's bytes give.
-use Rattle.std.proofs.Common.{◌≡◌, ◌<◌, ◌⊎◌, inl, inr, ℕ, List, length, take, nat_lt, true, false, Option, None, Some, MatchOption, Result, Ok, Err, IfOk, IfErr, arith, refl, sym, ◌∙◌, subst, lt-ltb, ltb-true, ltb-false}
+use Rattle.std.proofs.Common.{◌≡◌, ◌<◌, ◌⊎◌, inl, inr, ℕ, List, length, take, nat_lt, true, false, Option, None, Some, MatchOption, Result, Ok, Err, IfErr, arith, refl, sym, subst, lt-ltb, ltb-true, ltb-false}
 use Rattle.std.proofs.lemmas.List.{length-take, take_all}
 use Rattle.equation_file.specs.declared.equation.Equation.{Equation}
 use Rattle.equation_file.specs.File.{equation_of}

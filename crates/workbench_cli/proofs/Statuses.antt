@@ -1,5 +1,5 @@
 -- The statuses of refusals.
-use Rattle.std.proofs.Common.{◌≡◌, ◌≢◌, ℕ, arith, refl}
+use Rattle.std.proofs.Common.{◌≡◌, arith, refl}
 use Rattle.workbench_cli.specs.declared.refusal.Refusal.{Refusal}
 use Rattle.workbench_cli.specs.declared.refusal.Refusal.TheVariants.{FileFault, NotSubcritical, RuleTooLarge, Unbuilt, Memory}
 use Rattle.workbench_cli.specs.Refusals.{status_of}

@@ -1,5 +1,5 @@
 use Rattle.std.proofs.Common.{refl, inr, sym, ap, ◌∙◌, subst}
-use Rattle.wb_outside.specs.Told.{Gets, Grows}
+use Rattle.wb_outside.specs.Told.{Grows}
 use Rattle.wb_outside.proofs.ToldLemmas.{gets_nothing}
 use Rattle.workbench_cli.specs.Answer.{wrong_words, IsAnswer}
 use Rattle.workbench_cli.proofs.Answers.{decided, same_name}
