@@ -282,30 +282,55 @@ mod tests {
 
     #[test]
     fn keys_and_tables(rt: HostRuntime) {
-        let cases: [(&[&[u8]], bool); 24] = [
-            (&[TOP, NOISE, U], true),
-            (&[TOP, U, NOISE], true),
-            (&[TOP, NOISE, U, b"# end"], true),
-            (&[TOP, NOISE, U, b"\xff"], false),
-            (&[TOP, NOISE, U, b"#\xff"], false),
-            (&[b"scalin"], false),
-            (&[], false),
-            (&[b"scaling = [2, 1]\n", NOISE, U], false),
-            (&[b"version = 1\n", NOISE, U], false),
-            (&[TOP, b"version = 1\n", NOISE, U], false),
-            (&[TOP, NOISE, U, b"right = \"\"\n"], false),
-            (&[TOP, b"colour = 1\n", NOISE, U], false),
-            (&[TOP, NOISE, b"colour = 1\n", U], false),
-            (&[TOP, NOISE, U, b"colour = 1\n"], false),
-            (&[TOP, b"parameters = [\"a\"]\n", NOISE, U], false),
-            (&[TOP, b"parameters = []\n", NOISE, U], false),
-            (&[TOP, NOISE, b"group = \"g\"\n", U], false),
-            (&[TOP, NOISE, b"group = \"xi\"\n", U], false),
-            (&[TOP, NOISE, ETA, U], false),
-            (&[TOP, U], false),
-            (&[TOP, NOISE, U, V], false),
-            (&[TOP, NOISE], false),
+        let cases: [(&str, &[&[u8]], bool); 24] = [
+            ("the file", &[TOP, NOISE, U], true),
+            ("unknowns before noises", &[TOP, U, NOISE], true),
+            ("a comment at the end", &[TOP, NOISE, U, b"# end"], true),
+            ("a byte 255", &[TOP, NOISE, U, b"\xff"], false),
+            ("a byte 255 in a comment", &[TOP, NOISE, U, b"#\xff"], false),
+            ("six bytes", &[b"scalin"], false),
+            ("no bytes", &[], false),
+            ("no version", &[b"scaling = [2, 1]\n", NOISE, U], false),
+            ("no scaling", &[b"version = 1\n", NOISE, U], false),
+            ("two versions", &[TOP, b"version = 1\n", NOISE, U], false),
             (
+                "two right sides",
+                &[TOP, NOISE, U, b"right = \"\"\n"],
+                false,
+            ),
+            ("another key", &[TOP, b"colour = 1\n", NOISE, U], false),
+            (
+                "another key of a noise",
+                &[TOP, NOISE, b"colour = 1\n", U],
+                false,
+            ),
+            (
+                "another key of an unknown",
+                &[TOP, NOISE, U, b"colour = 1\n"],
+                false,
+            ),
+            (
+                "a parameter",
+                &[TOP, b"parameters = [\"a\"]\n", NOISE, U],
+                false,
+            ),
+            (
+                "an empty list of parameters",
+                &[TOP, b"parameters = []\n", NOISE, U],
+                false,
+            ),
+            ("a group", &[TOP, NOISE, b"group = \"g\"\n", U], false),
+            (
+                "the noise's own group",
+                &[TOP, NOISE, b"group = \"xi\"\n", U],
+                false,
+            ),
+            ("two noises", &[TOP, NOISE, ETA, U], false),
+            ("no noise", &[TOP, U], false),
+            ("two unknowns", &[TOP, NOISE, U, V], false),
+            ("no unknown", &[TOP, NOISE], false),
+            (
+                "no right side",
                 &[
                     TOP,
                     NOISE,
@@ -313,11 +338,19 @@ mod tests {
                 ],
                 false,
             ),
-            (&[TOP, b"[[noise]]\nname = \"xi\"\ndegree = -1\n", U], false),
+            (
+                "a degree that is no text",
+                &[TOP, b"[[noise]]\nname = \"xi\"\ndegree = -1\n", U],
+                false,
+            ),
         ];
-        for (pieces, read) in cases {
+        for (what, pieces, read) in cases {
             let file = joined(rt.alloc(), pieces).expect(&rt, "memory");
-            assert_eq!(rt; refusal(rt.alloc(), file.as_slice()), wanted(read));
+            assert_eq!(rt;
+                refusal(rt.alloc(), file.as_slice()),
+                wanted(read),
+                "{what}"
+            );
         }
     }
 
