@@ -1,0 +1,2 @@
+pub mod PolyLaws
+pub mod SymbolLaws

@@ -1,0 +1,13 @@
+//! Polynomials with whole coefficients over symbols: parameters, derivatives of unknowns, noises, trees and expectations of trees. Each carries a mass, which
+//! is at least the sum of its absolute coefficients and bounds those of all that is made of it.
+#![tactic(auto)]
+
+mod error;
+mod poly;
+mod symbols;
+#[cfg(test)]
+mod tests;
+
+pub use error::PolyError;
+pub use poly::{Poly, Term, one, scale, symbol, zero};
+pub use symbols::{Symbol, copy_symbol, copy_symbols, symbol_order, symbol_order_laws};

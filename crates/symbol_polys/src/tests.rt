@@ -1,0 +1,70 @@
+use crate::{PolyError, Symbol, copy_symbol, one, scale, symbol, symbol_order, zero};
+use degree_numbers::{Multi, TypeId};
+use plain_trees::Tree;
+use sqlite_items::Items;
+
+const LARGEST: i128 = i128::MAX;
+
+#[test]
+fn multiples_and_their_masses(rt: HostRuntime) {
+    let unit = one(rt.alloc()).expect(&rt, "one");
+    let cases = [(3, 3), (-3, 3), (LARGEST, LARGEST), (-LARGEST, LARGEST)];
+    for (by, mass) in cases {
+        let p = scale(rt.alloc(), &unit, by).expect(&rt, "multiple");
+        assert_eq!(rt; p.mass, mass);
+        assert_eq!(rt; p.terms.len(), 1);
+        assert_eq!(rt; p.terms.as_slice()[0].coefficient, by);
+        assert_eq!(rt; p.terms.as_slice()[0].symbols.len(), 0);
+    }
+    assert_eq!(rt;
+        scale(rt.alloc(), &unit, i128::MIN).err(),
+        Some(PolyError::CoefficientTooLarge)
+    );
+    let nothing = scale(rt.alloc(), &unit, 0).expect(&rt, "multiple");
+    assert_eq!(rt; (nothing.mass, nothing.terms.len()), (0, 0));
+    let nothing = scale(rt.alloc(), &zero(rt.alloc()).expect(&rt, "zero"), i128::MIN);
+    assert_eq!(rt; nothing.expect(&rt, "multiple").mass, 0);
+}
+
+#[test]
+fn the_mass_refuses_and_not_the_coefficient(rt: HostRuntime) {
+    let xi = symbol(rt.alloc(), Symbol::Noise(TypeId(0))).expect(&rt, "symbol");
+    assert_eq!(rt; (xi.mass, xi.terms.len()), (1, 1));
+    let most = scale(rt.alloc(), &xi, LARGEST).expect(&rt, "multiple");
+    assert_eq!(rt;
+        scale(rt.alloc(), &most, 2).err(),
+        Some(PolyError::CoefficientTooLarge)
+    );
+    let back = scale(rt.alloc(), &most, -1).expect(&rt, "multiple");
+    assert_eq!(rt; back.terms.len(), 1);
+    assert_eq!(rt; back.terms.as_slice()[0].coefficient, -LARGEST);
+}
+
+#[test]
+fn symbols_in_order(rt: HostRuntime) {
+    let first = Multi {
+        entries: [1, 0, 0, 0, 0],
+    };
+    let symbols = [
+        Symbol::Parameter(0),
+        Symbol::Parameter(7),
+        Symbol::Variable(TypeId(0), first),
+        Symbol::Variable(TypeId(1), Multi::zero()),
+        Symbol::Variable(TypeId(1), first),
+        Symbol::Noise(TypeId(0)),
+        Symbol::Plain(Tree {
+            n: Multi::zero(),
+            edges: Items::new(rt.alloc()),
+        }),
+        Symbol::Expect(Tree {
+            n: Multi::zero(),
+            edges: Items::new(rt.alloc()),
+        }),
+    ];
+    for i in 0..symbols.len() {
+        let copy = copy_symbol(rt.alloc(), &symbols[i]).expect(&rt, "copy");
+        for j in 0..symbols.len() {
+            assert_eq!(rt; symbol_order(&copy, &symbols[j]), i.cmp(&j));
+        }
+    }
+}
