@@ -4,8 +4,9 @@
 --   label e, labels n == the edge type e and the edge types of the node type n as such data
 --   put_label e es == the sorted list es with e at its place
 --   node_type_of t == the edge types of the edges that leave the root of t, in their order
---   Allows row t == the node type at the root of t is one of the row
---   IsAllowedAbove ty rule k t == it is in the rule of type k: of a noise, the empty one alone; of a kernel, one of its row
+--   IsInRow row es == the edge types es are a node type of the row
+--   IsInRule ty rule k es == they are one in the rule of type k: of a noise, the empty one alone; of a kernel, one of its row
+--   Allows row t, IsAllowedAbove ty rule k t == so is the node type at the root of t
 --   IsAllowedAtRoot rule t == it is in the rule of some kernel
 --   ConformsAbove ty rule t == above each edge of t stands a node type that the rule of its type allows
 --   IsConforming ty rule t == so it is, and the node type at the root is in the rule of some kernel: t strongly conforms to the rule
@@ -51,12 +52,17 @@ abbrev pub node_type_of : Plain → List EdgeLabel
 node_type_of (bare n) = []
 node_type_of (graft k p c t) = put_label (k, p) (node_type_of t)
 
+abbrev pub IsInRow : RuleRow → List EdgeLabel → Type 0
+IsInRow row es = (n : NodeType) × IsIn n row.nodes × (labels n ≡ es)
+
+abbrev pub IsInRule : Types → Rule → ℕ → List EdgeLabel → Type 0
+IsInRule ty rule k es = ((kind_of ty k ≡ Some Noise) × (es ≡ [])) ⊎ ((row : RuleRow) × IsIn row rule.rows × (row.kernel.0 ≡ k) × IsInRow row es)
+
 abbrev pub Allows : RuleRow → Plain → Type 0
-Allows row t = (n : NodeType) × IsIn n row.nodes × (labels n ≡ node_type_of t)
+Allows row t = IsInRow row (node_type_of t)
 
 abbrev pub IsAllowedAbove : Types → Rule → ℕ → Plain → Type 0
-IsAllowedAbove ty rule k t =
-    ((kind_of ty k ≡ Some Noise) × (node_type_of t ≡ [])) ⊎ ((row : RuleRow) × IsIn row rule.rows × (row.kernel.0 ≡ k) × Allows row t)
+IsAllowedAbove ty rule k t = IsInRule ty rule k (node_type_of t)
 
 abbrev pub IsAllowedAtRoot : Rule → Plain → Type 0
 IsAllowedAtRoot rule t = (row : RuleRow) × IsIn row rule.rows × Allows row t
