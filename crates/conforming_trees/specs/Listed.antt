@@ -8,7 +8,7 @@
 --   IsFirstZero eq rule z == z is the first such tree of degree 0 in tree order, or none where there is none
 --   HasTooManyTrees eq rule == more than 4,000 listed trees are not too large
 --   HasTooLargeTree eq rule == some such tree of a degree of at most 0 is too large
-use Rattle.std.specs.Prelude.{◌≡◌, ◌≢◌, ℕ, ◌<◌, ◌≤◌, false, List, length, ◌⊎◌}
+use Rattle.std.specs.Prelude.{◌≡◌, ◌≢◌, ◌<◌, ◌≤◌, false, List, length, ◌⊎◌}
 use Rattle.std.specs.List.Sorted.{IsStrictlySortedBy}
 use Rattle.std.specs.Ordering.{on, then_cmp}
 use Rattle.std.specs.declared.cmp.Ordering.{Ordering}
