@@ -1,2 +1,5 @@
+pub mod Numerals
+pub mod Powers
+pub mod Putting
 pub mod PolyLaws
 pub mod SymbolLaws

@@ -1,3 +1,5 @@
+pub mod Numerals
 pub mod Polynomials
 pub mod Symbols
+pub mod Text
 pub mod View
