@@ -1,10 +1,10 @@
 -- A monomial as powers of symbols.
-use Rattle.std.proofs.Common.{◌≡◌, ℕ, zero, suc, ◌+◌, ◌<◌, Bool, true, false, List, [], ◌∷◌, ◌++◌, length, drop, replicate, refl, ap, sym, ◌∙◌, arith, Ordering, Less, Equal, Greater}
-use Rattle.std.specs.List.{prefix_len, AllByRecursion, flat_map}
+use Rattle.std.proofs.Common.{◌≡◌, ℕ, suc, ◌+◌, Bool, true, false, List, [], ◌∷◌, drop, refl, ap, ◌∙◌, arith, Ordering, Less, Equal, Greater}
+use Rattle.std.specs.List.{prefix_len}
 use Rattle.std.specs.Ordering.{is_eq}
 use Rattle.symbol_polys.specs.Symbols.{PlainSymbol, symbol_order}
-use Rattle.symbol_polys.specs.Text.{Power, with_symbol, powers}
-use Rattle.symbol_polys.proofs.SymbolLaws.{symbol_order_exact, symbol_order_self}
+use Rattle.symbol_polys.specs.Text.{with_symbol, powers}
+use Rattle.symbol_polys.proofs.SymbolLaws.{symbol_order_exact}
 
 pub equal_is : (a : Ordering) → is_eq a ≡ true → a ≡ Equal
 equal_is Less h = absurd cc

@@ -1,8 +1,7 @@
 -- Steps of the text of a polynomial.
-use Rattle.std.proofs.Common.{◌≡◌, ℕ, zero, suc, ◌+◌, ◌<◌, ◌≤◌, Bool, true, false, List, [], ◌∷◌, ◌++◌, length, map, drop, get_or, refl, ap, sym, ◌∙◌, arith, append_assoc}
+use Rattle.std.proofs.Common.{◌≡◌, ℕ, zero, suc, ◌+◌, ◌<◌, Bool, true, false, List, [], ◌∷◌, ◌++◌, length, map, drop, get_or, refl, ap, sym, ◌∙◌, arith, append_assoc}
 use Rattle.std.proofs.lemmas.Grind.{common_steps}
 use Rattle.std.proofs.lemmas.List.{drop-map}
-use Rattle.std.proofs.lemmas.List.Sums.{prefix_len-le-length}
 use Rattle.std.specs.Prelude.{if◌then◌else◌}
 use Rattle.std.specs.List.{AllByRecursion}
 use Rattle.plain_trees.specs.Text.{starred}
@@ -10,7 +9,7 @@ use Rattle.symbol_polys.specs.Symbols.{PlainSymbol}
 use Rattle.symbol_polys.specs.Text.{Power, powers, remaining}
 use Rattle.symbol_polys.specs.View.{symbol_of}
 use Rattle.symbol_polys.specs.declared.symbols.Symbol.{Symbol}
-use Rattle.symbol_polys.proofs.Powers.{run, same, powers_run}
+use Rattle.symbol_polys.proofs.Powers.{run, powers_run}
 
 pub left_at : (xs : List Symbol) (i : ℕ) (x : Symbol) → i < length xs → x ≡ get_or xs i x → map symbol_of (drop i xs) ≡ symbol_of x ∷ map symbol_of (drop (i + 1) xs)
 left_at xs i x h at = let first : drop i xs ≡ x ∷ drop (i + 1) xs = grind (arith, common_steps) in rw first refl

@@ -11,5 +11,5 @@ mod text;
 
 pub use error::PolyError;
 pub use poly::{Poly, Term, one, scale, symbol, zero};
-pub use text::print_poly;
 pub use symbols::{Symbol, copy_symbol, copy_symbols, symbol_order, symbol_order_laws};
+pub use text::print_poly;

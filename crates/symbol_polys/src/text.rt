@@ -10,7 +10,7 @@ ghost use Rattle.plain_trees.specs.View.{plain};
 ghost use Rattle.symbol_polys.specs.Numerals.{numeral};
 ghost use Rattle.symbol_polys.specs.Symbols.{tree_in, symbol_order, HasBoundedTree};
 ghost use Rattle.symbol_polys.specs.Text.{IsOver, IsTermOver, symbol_text, power_text, powers, remaining, factors, body_text, signed_texts, poly_text};
-ghost use Rattle.symbol_polys.specs.View.{symbol_of, term_of, terms_of, IsPoly};
+ghost use Rattle.symbol_polys.specs.View.{symbol_of, term_of, terms_of};
 
 use crate::error::PolyError;
 use crate::poly::{Poly, Term};
@@ -22,9 +22,9 @@ use std::alloc::{AllocError, Global};
 
 /// What the symbols of a polynomial are named by: the types and the parameters of an equation.
 #[derive(Clone, Copy)]
-pub struct Names<'a> {
-    pub types: &'a Types,
-    pub parameters: &'a [Name],
+pub(crate) struct Names<'a> {
+    pub(crate) types: &'a Types,
+    pub(crate) parameters: &'a [Name],
 }
 
 fn put_number(out: &mut Vec<u8>, n: u128) -> Result<(), AllocError>
@@ -242,7 +242,6 @@ pub fn print_poly(
     f: &Poly,
 ) -> Result<Vec<u8>, PolyError>
     requires types { AreTypes types.now }
-    requires poly { IsPoly f.now }
     requires over { AllByRecursion (IsTermOver types.now parameters.now) (terms_of f.now.terms) }
     ensures text { IfOk result (λ v. v.items ≡ poly_text types.now parameters.now (terms_of f.now.terms)) }
     ensures memory { IsOkUnless result PolyError.Memory }

@@ -1,5 +1,4 @@
-use Rattle.std.proofs.Common.{◌≡◌, ◌+◌, ◌∷◌, map, drop, sym, ◌∙◌}
-use Rattle.std.specs.List.{AllByRecursion}
+use Rattle.std.proofs.Common.{◌≡◌, ◌+◌, map, drop}
 use Rattle.symbol_polys.specs.Symbols.{HasBoundedTree}
 use Rattle.symbol_polys.specs.Text.{IsOver, power_text}
 use Rattle.symbol_polys.specs.View.{symbol_of}
