@@ -5,6 +5,7 @@
 --   put_label e es == the sorted list es with e at its place
 --   node_type_of t == the edge types of the edges that leave the root of t, in their order
 --   IsInRow row es == the edge types es are a node type of the row
+--   IsInKernelRow rule k es == they are one of the row of kernel k
 --   IsInRule ty rule k es == they are one in the rule of type k: of a noise, the empty one alone; of a kernel, one of its row
 --   Allows row t, IsAllowedAbove ty rule k t == so is the node type at the root of t
 --   IsAllowedAtRoot rule t == it is in the rule of some kernel
@@ -55,8 +56,11 @@ node_type_of (graft k p c t) = put_label (k, p) (node_type_of t)
 abbrev pub IsInRow : RuleRow → List EdgeLabel → Type 0
 IsInRow row es = (n : NodeType) × IsIn n row.nodes × (labels n ≡ es)
 
+abbrev pub IsInKernelRow : Rule → ℕ → List EdgeLabel → Type 0
+IsInKernelRow rule k es = (row : RuleRow) × IsIn row rule.rows × (row.kernel.0 ≡ k) × IsInRow row es
+
 abbrev pub IsInRule : Types → Rule → ℕ → List EdgeLabel → Type 0
-IsInRule ty rule k es = ((kind_of ty k ≡ Some Noise) × (es ≡ [])) ⊎ ((row : RuleRow) × IsIn row rule.rows × (row.kernel.0 ≡ k) × IsInRow row es)
+IsInRule ty rule k es = ((kind_of ty k ≡ Some Noise) × (es ≡ [])) ⊎ IsInKernelRow rule k es
 
 abbrev pub Allows : RuleRow → Plain → Type 0
 Allows row t = IsInRow row (node_type_of t)

@@ -1,0 +1,6 @@
+//! The stages of the completion of a rule, and their laws.
+#![tactic(auto)]
+
+mod laws;
+
+pub use laws::next_stage_laws;
