@@ -1,0 +1,2 @@
+pub mod SymmetryLaws
+pub mod Repeats
