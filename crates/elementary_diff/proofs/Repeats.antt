@@ -122,10 +122,11 @@ edge_step c eq id n es i f m s decides distinct known there b small lt count abo
     let is : m ≡ many = (rw all at count) ∙ multiplicity_left c eq es i no_edge decides distinct below lt in
     let product : f * (child * many * rest) ≡ whole = ap (λ (x : ℕ). f * x) (sym (symmetry_left c es i no_edge lt)) ∙ inv in
     let most = symmetry_bound c id (tree_over c.trees n es) there small in
-    let positive = symmetry_pos (tree_over c.trees [] (drop (i + 1) es)) in
-    (rw (is, above) (part_within f many child rest whole (factorial 24) product most positive (symmetry_pos (tree_at c id))),
+    let positive = symmetry_pos (tree_over c.trees [] (drop (i + 1) es)) in (
+      rw (is, above) (part_within f many child rest whole (factorial 24) product most positive (symmetry_pos (tree_at c id))),
       rw (is, above) (factor_within f many child rest whole (factorial 24) product most positive),
-      next_factor f m s child many rest whole is above product)
+      next_factor f m s child many rest whole is above product,
+    )
 
 pub edges_done : (c : Content) (id : ℕ) (n : List ℕ) (es : List EdgeTo) (i f : ℕ) → Holds c id (tree_over c.trees n es) → edge_count_of (tree_over c.trees n es) ≤ 24 → length es ≤ i →
     f * symmetry_of (tree_over c.trees [] (drop i es)) ≡ symmetry_of (tree_at c id) → (f ≡ symmetry_of (tree_at c id)) × (f ≤ factorial 24)

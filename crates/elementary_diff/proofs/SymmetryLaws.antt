@@ -1,5 +1,5 @@
 -- Laws of symmetry factors.
-use Rattle.std.proofs.Common.{◌≡◌, ℕ, zero, suc, ◌+◌, ◌*◌, ◌^◌, ◌<◌, ◌≤◌, cond, List, [], ◌∷◌, length, map, refl, sym, ap, ◌∙◌, arith, Ordering, Less, Equal, Greater}
+use Rattle.std.proofs.Common.{◌≡◌, ℕ, zero, suc, ◌+◌, ◌*◌, ◌^◌, ◌<◌, ◌≤◌, cond, List, [], ◌∷◌, map, refl, sym, ap, ◌∙◌, arith, Ordering, Less, Equal, Greater}
 use Rattle.std.proofs.Math.Nat.{mul-pos}
 use Rattle.std.proofs.lemmas.Nat.{mul-le}
 use Rattle.std.specs.Ordering.{is_eq}
@@ -7,7 +7,7 @@ use Rattle.exact_sums.specs.Sums.{product_over}
 use Rattle.multiplicities.specs.Distinct.{with_new, distinct_by}
 use Rattle.multiplicities.specs.Factorial.{factorial}
 use Rattle.multiplicities.proofs.Grouping.{power_product, power_product-cons}
-use Rattle.multiplicities.proofs.Factorials.{factorial-suc, factorials_within, factorial_most}
+use Rattle.multiplicities.proofs.Factorials.{factorial-suc, factorials_within}
 use Rattle.ordered_lists.specs.Subs.{count_of}
 use Rattle.plain_trees.specs.Plain.{Plain, bare, graft, edge_count_of}
 use Rattle.plain_trees.specs.Canon.{Planted, planted_order}

@@ -6,7 +6,6 @@ ghost use Rattle.gaussian_pairings.specs.Vanishing.{noise_here, noises_in, vanis
 use degree_numbers::{Kind, TypeId, Types};
 use tree_pool::{Pool, TreeId};
 
-
 /// How many noise edges of the group one edge of this type is.
 fn noise_here(types: &Types, kind: TypeId, group: usize) -> u32
     ensures { result ≡ noise_here types.now kind.0 group }

@@ -1,11 +1,11 @@
 -- Lists in which no member stands twice.
-use Rattle.std.proofs.Common.{◌≡◌, ℕ, zero, suc, ◌+◌, ◌<◌, ◌≤◌, List, [], ◌∷◌, ◌++◌, length, map, flat_map, refl, sym, ap, subst, ◌∙◌, inl, inr, ◌⊎◌, arith, length-append, cond, Ordering, Less, Equal, Greater}
+use Rattle.std.proofs.Common.{◌≡◌, ℕ, zero, suc, ◌+◌, ◌<◌, ◌≤◌, List, [], ◌∷◌, ◌++◌, length, map, flat_map, refl, sym, ap, subst, ◌∙◌, inl, inr, arith, length-append, cond, Ordering, Less, Equal, Greater}
 use Rattle.std.specs.Ordering.{is_eq}
 use Rattle.std.specs.Cmp.{IsTotalOrder}
 use Rattle.std.specs.FinMap.{IsAntisymmetric}
 use Rattle.ordered_lists.specs.Members.{IsIn}
 use Rattle.ordered_lists.specs.Subs.{count_of}
-use Rattle.ordered_lists.proofs.Members.{in_append_left, in_append_right, from_append, in_map, from_map, from_flat_map}
+use Rattle.ordered_lists.proofs.Members.{from_append, from_map, from_flat_map}
 use Rattle.ordered_lists.proofs.Unique.{own}
 use Rattle.exact_sums.specs.Sums.{total}
 use Rattle.multiplicities.specs.Distinct.{with_new, distinct_by, AreDistinct}
@@ -26,8 +26,8 @@ distinct_flat_map f key [] each keyed d = tt
 distinct_flat_map f key (x ∷ xs) each keyed d =
     distinct_append (f x) (flat_map f xs) (each x (inl refl)) (distinct_flat_map f key xs (λ y h. each y (inr h)) (λ y z h k. keyed y z (inr h) k) d.1)
     (λ y h k. let m = from_flat_map f y xs k in
-        let same : m.0 ≡ x = sym (keyed m.0 y (inr m.1) m.2) ∙ keyed x y (inl refl) h in
-        d.0 (subst (λ z. IsIn z xs) same m.1))
+    let same : m.0 ≡ x = sym (keyed m.0 y (inr m.1) m.2) ∙ keyed x y (inl refl) h in
+    d.0 (subst (λ z. IsIn z xs) same m.1))
 
 pub length-flat_map : {X Y : Type 0} (f : X → List Y) (xs : List X) → length (flat_map f xs) ≡ total (λ x. length (f x)) xs
 length-flat_map f [] = refl

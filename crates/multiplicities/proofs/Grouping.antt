@@ -1,5 +1,5 @@
 -- Sums and products over the distinct members of a list, with their multiplicities: what one more member changes.
-use Rattle.std.proofs.Common.{◌≡◌, ℕ, zero, suc, ◌+◌, ◌*◌, ◌^◌, ◌<◌, ◌≤◌, cond, List, [], ◌∷◌, length, refl, sym, ap, subst, ◌∙◌, arith, Ordering, Less, Equal, Greater}
+use Rattle.std.proofs.Common.{◌≡◌, ℕ, zero, suc, ◌+◌, ◌*◌, ◌^◌, ◌<◌, cond, List, [], ◌∷◌, length, refl, sym, ap, subst, ◌∙◌, arith, Ordering, Less, Equal, Greater}
 use Rattle.std.proofs.Math.Nat.{mul_comm, mul_assoc, pow-zero, pow-suc}
 use Rattle.std.specs.Ordering.{is_eq, ordering_reverse}
 use Rattle.std.specs.Cmp.{IsTotalOrder}
@@ -73,7 +73,7 @@ module _ {X : Type 0} (R : X → X → Ordering) (o : IsTotalOrder R) (exact : I
 
 -- one member more, in any sum of one value for each distinct member
 module _ {X : Type 0} (R : X → X → Ordering) (o : IsTotalOrder R) (exact : IsAntisymmetric R)
-         (op : ℕ → ℕ → ℕ) (unit : ℕ) (assoc : (a b c : ℕ) → op (op a b) c ≡ op a (op b c)) (comm : (a b : ℕ) → op a b ≡ op b a) (right : (a : ℕ) → op a unit ≡ a) where
+    (op : ℕ → ℕ → ℕ) (unit : ℕ) (assoc : (a b c : ℕ) → op (op a b) c ≡ op a (op b c)) (comm : (a b : ℕ) → op a b ≡ op b a) (right : (a : ℕ) → op a unit ≡ a) where
   over_same : (h g : X → ℕ) (z : X) (ds : List X) → count_of R z ds ≡ 0 → ((y : X) → (R z y ≡ Equal → ⊥) → h y ≡ g y) → over op unit h ds ≡ over op unit g ds
   over_same h g z [] none same = refl
   over_same h g z (y ∷ ys) none same =
