@@ -1,5 +1,5 @@
 -- Every equation that is read is within all limits of a file.
-use Rattle.std.proofs.Common.{◌≡◌, ℕ, ◌<◌, ◌≤◌, ◌≤ℤ◌, Bool, true, false, true≢false, is_some, if◌then◌else◌, List, [], ◌∷◌, length, Option, None, Some, Result, Ok, Err, IfOk, unwrap_or, pos, unsigned_abs, refl, sym, ap, subst, ◌∙◌, arith}
+use Rattle.std.proofs.Common.{◌≡◌, ℕ, ◌<◌, ◌≤◌, ◌≤ℤ◌, Bool, true, false, true≢false, is_ok, inl, inr, if◌then◌else◌, List, [], ◌∷◌, length, Option, None, Some, Result, Ok, Err, IfOk, pos, unsigned_abs, sym, ap, subst, ◌∙◌, arith}
 use Rattle.std.specs.List.{AllByRecursion, range_with_len}
 use Rattle.std.proofs.lemmas.Int.{ints}
 use Rattle.std.proofs.lemmas.List.{length-take-le}
@@ -14,18 +14,19 @@ use Rattle.equation_file.specs.declared.document.Document.{Document}
 use Rattle.equation_file.specs.declared.equation.Equation.{Equation}
 use Rattle.equation_file.specs.declared.equation.Unknown.{Unknown}
 use Rattle.equation_file.specs.declared.fault.Fault.{Fault}
+use Rattle.equation_file.specs.declared.fault.Fault.TheVariants as faults
 use Rattle.equation_file.specs.declared.refusal.FileRefusal.{FileRefusal}
 use Rattle.equation_file.specs.Accepted.{IsUnknown, IsEquation}
-use Rattle.equation_file.specs.Answer.{IsAnswer}
-use Rattle.equation_file.specs.File.{accepted, is_narrow, narrow_equation, table_equation, equation_of}
+use Rattle.equation_file.specs.File.{accepted, table_equation, reading, told, equation_of}
 use Rattle.equation_file.specs.Limits.{units_of, denominator_of, limits_of}
+use Rattle.equation_file.specs.Refusals.{IsAnswer}
 use Rattle.equation_file.specs.Meaning.{types_of, equation_in, document_equation}
 use Rattle.equation_file.proofs.AcceptedRights.{IsRight, accepted_rights, regularities_are, kernel_numbers}
 use Rattle.equation_file.proofs.AcceptedTypes.{accepted_types, all_names, denominator_within, kernels_are, noise_count_is, regularity_writable}
 use Rattle.equation_file.proofs.DocumentFacts.{document_is_read}
 use Rattle.equation_file.proofs.DocumentRead.{IsRead}
 use Rattle.equation_file.proofs.LimitFacts.{is_within}
-use Rattle.equation_file.proofs.ReadFacts.{accepted_parts}
+use Rattle.equation_file.proofs.ReadFacts.{bind_ok, same_value, accepted_parts}
 
 unknowns_are : (ty : Types) (count : ℕ) (us : List Unknown) → AllByRecursion (λ u. IsRight ty count u.right) us → AllByRecursion (λ u. IsWritable (unsigned_abs ty.units.den) u.regularity.a × (u.regularity.b ≡ pos 0)) us → AllByRecursion (IsUnknown ty count) us
 unknowns_are ty count [] rights regularities = tt
@@ -67,28 +68,33 @@ document_is_equation ms doc h =
     let parts = accepted_parts ms doc h in
     in_equation doc (document_is_read ms doc parts.0) parts.1
 
-none_read : (eq : Equation) → ¬ (◌≡◌ {A = Option Equation} None (Some eq))
-none_read eq e = true≢false (sym (ap is_some e))
+none_read : {P : Type 0} (f : Fault) (eq : Equation) → ◌≡◌ {A = Result Equation Fault} (Err f) (Ok eq) → P
+none_read f eq e = absurd (true≢false (sym (ap is_ok e)))
 
-narrow_is : (ms : Members) (r : Result Document Fault) (eq : Equation) → ((doc : Document) → r ≡ Ok doc → IsEquation (document_equation doc)) → narrow_equation ms r ≡ Some eq → IsEquation eq
-narrow_is ms (Err f) eq is h = absurd (none_read eq h)
-narrow_is ms (Ok doc) eq is h = (elim (is_narrow ms doc) as (λ b. (if b then Some (document_equation doc) else None) ≡ Some eq → IsEquation eq) [
-  | true ↦ λ e. subst IsEquation (ap (λ o. unwrap_or o eq) e) (is doc refl)
-  | false ↦ λ e. absurd (none_read eq e)
-]) h
+table_is : (table : Option Members) (eq : Equation) → table_equation table ≡ Ok eq → IsEquation eq
+table_is None eq h = none_read faults.NotToml eq h
+table_is (Some ms) eq h =
+    let b = bind_ok (accepted ms) _ eq h in
+    subst IsEquation (same_value (document_equation b.0) eq b.2) (document_is_equation ms b.0 b.1)
 
-table_is : (table : Option Members) (eq : Equation) → table_equation table ≡ Some eq → IsEquation eq
-table_is None eq h = absurd (none_read eq h)
-table_is (Some ms) eq h = narrow_is ms (accepted ms) eq (λ doc e. document_is_equation ms doc e) h
+read_as : (long utf8 : Bool) (read : Result Equation Fault) (f g : Fault) (eq : Equation) → (if long then Err f else if utf8 then read else Err g) ≡ Ok eq → read ≡ Ok eq
+read_as true utf8 read f g eq h = none_read f eq h
+read_as false true read f g eq h = h
+read_as false false read f g eq h = none_read g eq h
 
-read_as : (long utf8 : Bool) (read : Option Equation) (eq : Equation) → (if long then None else if utf8 then read else None) ≡ Some eq → read ≡ Some eq
-read_as true utf8 read eq h = search
-read_as false true read eq h = h
-read_as false false read eq h = search
+reading_is : (bytes : List ℕ) (eq : Equation) → reading bytes ≡ Ok eq → IsEquation eq
+reading_is bytes eq h = table_is (parse_document bytes) eq (read_as (nat_lt 65536 (length bytes)) (is_utf8 bytes) (table_equation (parse_document bytes)) _ _ eq h)
 
-pub file_is_equation : (bytes : List ℕ) (eq : Equation) → equation_of bytes ≡ Some eq → IsEquation eq
-file_is_equation bytes eq h = table_is (parse_document bytes) eq (read_as (nat_lt 65536 (length bytes)) (is_utf8 bytes) (table_equation (parse_document bytes)) eq h)
+equation_in_result : Equation → Result Equation FileRefusal → Equation
+equation_in_result otherwise (Ok eq) = eq
+equation_in_result otherwise (Err e) = otherwise
+
+told_is : (read : Result Equation Fault) (eq : Equation) → told read ≡ Ok eq → read ≡ Ok eq
+unfolding equation_in_result
+told_is (Ok e) eq h = ap (λ r. Ok (equation_in_result e r)) h
+told_is (Err f) eq h = absurd (true≢false (sym (ap is_ok h)))
 
 pub answer_is : (bytes : List ℕ) (result : Result Equation FileRefusal) → IsAnswer (equation_of bytes) result → IfOk result (λ eq. IsEquation eq)
-answer_is bytes (Ok eq) h = file_is_equation bytes eq h
+answer_is bytes (Ok eq) (inl memory) = absurd (true≢false (ap is_ok memory))
+answer_is bytes (Ok eq) (inr read) = reading_is bytes eq (told_is (reading bytes) eq (sym read))
 answer_is bytes (Err e) h = tt

@@ -7,10 +7,8 @@ use Rattle.std.proofs.lemmas.List.{length-append}
 use Rattle.std.proofs.lemmas.Str.{is_utf8-from_IsUtf8, IsUtf8-from_is_utf8}
 use Rattle.toml.specs.Data.{Data, Items, no_items, item, Members, get_member, as_array}
 use Rattle.toml.specs.Parse.{parse_document}
-use Rattle.toml.specs.View.{items_view}
-use Rattle.toml.specs.declared.value.Value.{Value}
 use Rattle.equation_file.specs.Counted.{AreCounted}
-use Rattle.equation_file.specs.File.{accepted, only_table, table_equation, equation_of}
+use Rattle.equation_file.specs.File.{accepted, table_equation, reading}
 use Rattle.equation_file.specs.Limits.{limits_of}
 use Rattle.equation_file.specs.Reading.{◌>>=◌, of_kind, keys_of, version_of, list_of, numbers_from, parameters_of, noise_of, noises_from, noises_of, unknown_of, unknowns_from, rights_from, unknown_part, document_of, names_of}
 use Rattle.equation_file.specs.declared.fault.Section.TheVariants.{Scaling, Noise, Unknown}
@@ -20,6 +18,7 @@ use Rattle.equation_file.specs.declared.document.Document.{Document}
 use Rattle.equation_file.specs.declared.document.NoiseEntry.{NoiseEntry}
 use Rattle.equation_file.specs.declared.document.UnknownEntry.{UnknownEntry}
 use Rattle.equation_file.specs.declared.fault.Fault.{Fault}
+use Rattle.equation_file.specs.declared.fault.Fault.TheVariants as faults
 
 pub bind_ok : {A B : Type 0} (r : Result A Fault) (f : A → Result B Fault) (b : B) → (r >>= f) ≡ Ok b → (a : A) × (r ≡ Ok a) × (f a ≡ Ok b)
 bind_ok (Ok a) f b h = (a, refl, h)
@@ -88,19 +87,14 @@ accepted_parts ms doc h =
     let e = same_value b.0 doc l.2 in
     subst (λ d. (document_of ms ≡ Ok d) × (limits_of d ≡ Ok tt)) e (b.1, l.1)
 
-pub many_items : (vs : List Value) → 2 ≤ length vs → None ≡ only_table (items_view vs)
-many_items [] h = absurd (omega (arith, h))
-many_items (v ∷ []) h = absurd (omega (arith, h))
-many_items (v ∷ w ∷ vs) h = refl
-
 not_longer : (n m : ℕ) → m ≤ n → nat_lt n m ≡ false
 not_longer n m h = grind (arith, nat_tests)
 
 not_utf8 : (bs : List ℕ) → ¬ (IsUtf8 bs) → is_utf8 bs ≡ false
 not_utf8 bs h = elim (is_utf8 bs) as (λ b. is_utf8 bs ≡ b → b ≡ false) [ true ↦ λ e. absurd (h (IsUtf8-from_is_utf8 bs e)) | false ↦ λ e. refl ] refl
 
-pub equation-short : (bs : List ℕ) → length bs ≤ 65536 → IsUtf8 bs → equation_of bs ≡ table_equation (parse_document bs)
-equation-short bs short utf8 = rw (not_longer 65536 (length bs) short, is_utf8-from_IsUtf8 bs utf8)
+pub reading-short : (bs : List ℕ) → length bs ≤ 65536 → IsUtf8 bs → reading bs ≡ table_equation (parse_document bs)
+reading-short bs short utf8 = rw (not_longer 65536 (length bs) short, is_utf8-from_IsUtf8 bs utf8) refl
 
-pub equation-not_utf8 : (bs : List ℕ) → length bs ≤ 65536 → ¬ (IsUtf8 bs) → equation_of bs ≡ None
-equation-not_utf8 bs short wrong = rw (not_longer 65536 (length bs) short, not_utf8 bs wrong)
+pub reading-not_utf8 : (bs : List ℕ) → length bs ≤ 65536 → ¬ (IsUtf8 bs) → reading bs ≡ Err faults.NotUtf8
+reading-not_utf8 bs short wrong = rw (not_longer 65536 (length bs) short, not_utf8 bs wrong) refl

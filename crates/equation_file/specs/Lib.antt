@@ -1,5 +1,4 @@
 pub mod Accepted
-pub mod Answer
 pub mod Collect
 pub mod Counted
 pub mod DegreeEntry
@@ -13,4 +12,5 @@ pub mod Meaning
 pub mod Names
 pub mod Products
 pub mod Reading
+pub mod Refusals
 pub mod Terms

@@ -20,6 +20,7 @@ mod terms;
 
 pub use edge_types::{edge_type_laws, edge_type_order};
 pub use equation::{Equation, RightTerm, Unknown};
+pub use fault::{Reason, Which};
 pub use read::read_equation;
 pub use refusal::FileRefusal;
 

@@ -38,8 +38,8 @@ struct FoundUnknowns {
     found: Items<UnknownEntry>,
 }
 
-/// The value at a key of a table.
-pub fn value_at<'a>(table: &'a Table, key: &str) -> Option<&'a Value>
+// The value at a key of a table.
+fn value_at<'a>(table: &'a Table, key: &str) -> Option<&'a Value>
     ensures { option_map (λ v. view v.now) result ≡ get_member key.now (table_view table.now) }
 {
     table.get(key)

@@ -78,7 +78,7 @@ pub fn terms_number(terms: &[WrittenTerm]) -> Option<u64>
 }
 
 /// The number of factors, counted with their powers; it stops at 2^63-1.
-pub fn power_of(term: &WrittenTerm) -> u64
+fn power_of(term: &WrittenTerm) -> u64
     ensures { result ≡ min (power_of term.now) most }
 {
     let mut power = 0u64;

@@ -1,5 +1,5 @@
-// Files that people know, and files at the limits.
-use crate::{Equation, FileRefusal, RightTerm, read_equation};
+// Files of equations that people know.
+use crate::{Equation, RightTerm, read_equation};
 use degree_numbers::{Degree, Kind, Multi, TypeId};
 use std::alloc::Global;
 
@@ -78,13 +78,6 @@ fn gives(alloc: Global, wanted: &Wanted) -> bool {
     }
 }
 
-fn is_unbuilt(alloc: Global, file: &[u8]) -> bool {
-    match read_equation(alloc, file) {
-        Ok(_) => false,
-        Err(refusal) => refusal == FileRefusal::Unbuilt,
-    }
-}
-
 const PHI4: Wanted = Wanted {
     file: b"version = 1\nscaling = [2, 1, 1]\n[[noise]]\nname = \"xi\"\ndegree = \"-2-k\"\n[[unknown]]\nname = \"u\"\ndegree = \"2\"\nregularity = \"-1/2\"\nright = \"-u^3+xi\"\n",
     dims: 3,
@@ -150,12 +143,4 @@ fn equations_that_people_know(rt: HostRuntime) {
     assert!(rt; gives(rt.alloc(), &PAM), "PAM in two dimensions");
     assert!(rt; gives(rt.alloc(), &EMPTY), "an empty right side");
     assert!(rt; gives(rt.alloc(), &COLLECTED), "equal terms");
-}
-
-#[test]
-fn files_that_are_not_narrow(rt: HostRuntime) {
-    let fraction =
-        b"version = 1\nscaling = [2, 1, 1]\n[[noise]]\nname = \"xi\"\ndegree = \"-2-k\"\n[[unknown]]\nname = \"u\"\ndegree = \"2\"\nregularity = \"-1/2\"\nright = \"1/2*u^2+xi\"\n";
-    assert!(rt; is_unbuilt(rt.alloc(), fraction));
-    assert!(rt; is_unbuilt(rt.alloc(), b"scalin"));
 }

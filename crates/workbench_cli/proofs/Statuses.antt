@@ -1,26 +1,35 @@
 -- The statuses of refusals.
 use Rattle.std.proofs.Common.{◌≡◌, arith, refl}
 use Rattle.workbench_cli.specs.declared.refusal.Refusal.{Refusal}
-use Rattle.workbench_cli.specs.declared.refusal.Refusal.TheVariants.{FileFault, NotSubcritical, RuleTooLarge, Unbuilt, Memory}
+use Rattle.workbench_cli.specs.declared.refusal.Refusal.TheVariants.{FileFault, NotUtf8, NotToml, Malformed, Limit, NotSubcritical, RuleTooLarge, Memory}
 use Rattle.workbench_cli.specs.Refusals.{status_of}
 
 pub status_3 : (r : Refusal) → status_of r ≡ 3 → r ≡ FileFault
 status_3 FileFault e = refl
+status_3 NotUtf8 e = absurd (omega (arith, e))
+status_3 NotToml e = absurd (omega (arith, e))
+status_3 (Malformed entry reason) e = absurd (omega (arith, e))
+status_3 (Limit which count) e = absurd (omega (arith, e))
 status_3 (NotSubcritical kernel node left right) e = absurd (omega (arith, e))
 status_3 RuleTooLarge e = absurd (omega (arith, e))
 status_3 Memory e = absurd (omega (arith, e))
-status_3 Unbuilt e = absurd (omega (arith, e))
 
 pub status_15 : (r : Refusal) → status_of r ≡ 15 → ⊥
 status_15 FileFault e = omega (arith, e)
+status_15 NotUtf8 e = omega (arith, e)
+status_15 NotToml e = omega (arith, e)
+status_15 (Malformed entry reason) e = omega (arith, e)
+status_15 (Limit which count) e = omega (arith, e)
 status_15 (NotSubcritical kernel node left right) e = omega (arith, e)
 status_15 RuleTooLarge e = omega (arith, e)
 status_15 Memory e = omega (arith, e)
-status_15 Unbuilt e = omega (arith, e)
 
 pub status_2 : (r : Refusal) → status_of r ≡ 2 → ⊥
 status_2 FileFault e = omega (arith, e)
+status_2 NotUtf8 e = omega (arith, e)
+status_2 NotToml e = omega (arith, e)
+status_2 (Malformed entry reason) e = omega (arith, e)
+status_2 (Limit which count) e = omega (arith, e)
 status_2 (NotSubcritical kernel node left right) e = omega (arith, e)
 status_2 RuleTooLarge e = omega (arith, e)
 status_2 Memory e = omega (arith, e)
-status_2 Unbuilt e = omega (arith, e)

@@ -4,7 +4,7 @@ ghost use Rattle.workbench_cli.specs.Check.{IsChecked};
 
 use crate::refusal::Refusal;
 use crate::verdict::verdict_on;
-use equation_file::{FileRefusal, read_equation};
+use equation_file::read_equation;
 use std::alloc::Global;
 
 /// The check text of a file, or why it is refused.
@@ -14,7 +14,6 @@ pub fn check(alloc: Global, file: &[u8]) -> Result<Vec<u8>, Refusal>
 {
     match read_equation(alloc, file) {
         Ok(eq) => verdict_on(alloc, &eq),
-        Err(FileRefusal::Unbuilt) => Err(Refusal::Unbuilt),
-        Err(FileRefusal::Memory) => Err(Refusal::Memory),
+        Err(refusal) => Err(Refusal::of_file(refusal)),
     }
 }

@@ -88,7 +88,7 @@ fn equations_are_accepted_or_refused(rt: HostRuntime) -> Result<(), Fail> {
             "refused 6 NotSubcritical u u*u*u -3/2 -5/2\n",
         ),
         (KPZ, "", 6, "", "refused 6 NotSubcritical u xi 1/2 1/2\n"),
-        ("scalin", "", 18, "", "refused 18 Unbuilt\n"),
+        ("scalin", "", 4, "", "refused 4 NotToml\n"),
     ] {
         let text = text.replace(rt.alloc(), "REGULARITY", regularity)?;
         let run = run_program(rt.alloc(), "check file", &text, &[], &[])?;

@@ -1,0 +1,148 @@
+// Which of two faults is told.
+use crate::files::{line_of, line_with};
+use Line::{Noise, Parameters, Scaling, Unknown, Version};
+use std::alloc::{AllocError, Global};
+use std::test::Fail;
+
+#[derive(Clone, Copy, PartialEq, Eq)]
+enum Line {
+    Version,
+    Scaling,
+    Parameters,
+    Noise,
+    Unknown,
+}
+
+const FILE: [(Line, &str); 5] = [
+    (Version, "version = 1"),
+    (Scaling, "scaling = [2, 1]"),
+    (Parameters, "parameters = ['a']"),
+    (Noise, "noise = [{ name = 'xi', degree = '-1' }]"),
+    (
+        Unknown,
+        "unknown = [{ name = 'u', degree = '2', regularity = '0', right = '' }]",
+    ),
+];
+
+// Lines with a fault, in the order in which faults are sought.
+const FAULTS: [(Line, &str, &str); 20] = [
+    (Parameters, "colour = 1", "4 Malformed file key"),
+    (Version, "version = 2", "4 Malformed version value"),
+    (Scaling, "scaling = 2", "4 Malformed scaling kind"),
+    (
+        Parameters,
+        "parameters = ['1']",
+        "4 Malformed parameters[1] name",
+    ),
+    (
+        Noise,
+        "noise = [{ name = 'xi' }]",
+        "4 Malformed noise[1].degree missing",
+    ),
+    (Unknown, "unknown = []", "4 Malformed unknown value"),
+    (
+        Unknown,
+        "unknown = [{ name = 'u', degree = '2', regularity = '0', right = '*' }]",
+        "4 Malformed unknown[1].right polynomial",
+    ),
+    (
+        Scaling,
+        "scaling = [11, 1, 1, 1, 1, 1]",
+        "5 Limit dimensions 6",
+    ),
+    (Scaling, "scaling = [2, 11]", "5 Limit scaling 11"),
+    (
+        Parameters,
+        "parameters = ['a', 'b', 'c', 'd', 'e', 'f', 'g', 'h', 'i']",
+        "5 Limit parameters 9",
+    ),
+    (
+        Noise,
+        "noise = [{ name = 'xi', degree = '-1000001-k' }]",
+        "5 Limit number 1000001",
+    ),
+    (
+        Unknown,
+        "unknown = [{ name = 'u', degree = '1000002', regularity = '1000003', right = '' }]",
+        "5 Limit number 1000002",
+    ),
+    (
+        Unknown,
+        "unknown = [{ name = 'u', degree = '2', regularity = '1000003', right = '1000004' }]",
+        "5 Limit number 1000003",
+    ),
+    (
+        Unknown,
+        "unknown = [{ name = 'u', degree = '2', regularity = '0', right = '1000004' }]",
+        "5 Limit number 1000004",
+    ),
+    (
+        Noise,
+        "noise = [{ name = 'xi', degree = '-21' }]",
+        "5 Limit degree 21",
+    ),
+    (
+        Unknown,
+        "unknown = [{ name = 'u', degree = '22', regularity = '-23', right = '' }]",
+        "5 Limit degree 22",
+    ),
+    (
+        Unknown,
+        "unknown = [{ name = 'u', degree = '2', regularity = '-23', right = '' }]",
+        "5 Limit degree 23",
+    ),
+    (
+        Noise,
+        "noise = [{ name = 'xi', degree = '1/1000' }, { name = 'eta', degree = '1/1001*k' }]",
+        "5 Limit unit 1001000",
+    ),
+    (
+        Unknown,
+        "unknown = [{ name = 'u', degree = '2', regularity = '0', right = 'u^25' }]",
+        "5 Limit factors 25",
+    ),
+    (
+        Unknown,
+        "unknown = [{ name = 'u', degree = '2', regularity = '0', right = '1/1000*u+1/1001' }]",
+        "5 Limit denominator 1001000",
+    ),
+];
+
+// The file with these lines in the place of others, from its first line on or from its last.
+fn file_with(
+    alloc: Global,
+    changes: &[(Line, &str); 2],
+    backwards: bool,
+) -> Result<Vec<u8>, AllocError> {
+    let mut file = Vec::new(alloc);
+    for i in 0..FILE.len() {
+        let place = if backwards { FILE.len() - 1 - i } else { i };
+        let (line, mut text) = FILE[place];
+        for (changed, change) in changes {
+            if *changed == line {
+                text = *change;
+            }
+        }
+        file.extend_from_slice(text.as_bytes())?;
+        file.push(b'\n')?;
+    }
+    Ok(file)
+}
+
+#[test]
+fn the_first_of_two_faults_is_told(rt: HostRuntime) -> Result<(), Fail> {
+    for (i, (first, earlier, wanted)) in FAULTS.into_iter().enumerate() {
+        for (second, later, _) in &FAULTS[i..] {
+            let changes = [(*second, *later), (first, earlier)];
+            for backwards in [false, true] {
+                let file = file_with(rt.alloc(), &changes, backwards)?;
+                assert_eq!(rt;
+                    line_of(rt.alloc(), &file)?,
+                    line_with(rt.alloc(), wanted)?,
+                    "{earlier} and {later}"
+                );
+            }
+        }
+    }
+    Ok(())
+}
