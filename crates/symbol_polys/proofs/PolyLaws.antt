@@ -1,5 +1,5 @@
 -- Polynomials with one term or none, and a polynomial times a number.
-use Rattle.std.proofs.Common.{◌≡◌, ◌≢◌, ℕ, zero, suc, ◌*◌, ◌<◌, ◌≤◌, true, false, Bool, cond, List, [], ◌∷◌, length, get_or, ℤ, pos, negsuc, ◌+ℤ◌, ◌-ℤ◌, ◌*ℤ◌, ◌≤ℤ◌, unsigned_abs, FitsSigned, to_z, of_z, refl, sym, ap, subst, ◌∙◌, arith, rules}
+use Rattle.std.proofs.Common.{◌≡◌, ◌≢◌, ℕ, zero, suc, ◌*◌, ◌<◌, ◌≤◌, true, false, Bool, cond, List, [], ◌∷◌, length, get_or, map, ℤ, pos, negsuc, ◌+ℤ◌, ◌-ℤ◌, ◌*ℤ◌, ◌≤ℤ◌, unsigned_abs, FitsSigned, to_z, of_z, refl, sym, ap, subst, ◌∙◌, arith, rules}
 use Rattle.std.specs.Int.{w128}
 use Rattle.std.specs.List.{AllByRecursion}
 use Rattle.std.specs.List.Sorted.{IsStrictlySortedBy}
@@ -10,7 +10,7 @@ use Rattle.std.proofs.lemmas.Nat.{mul-le}
 use Rattle.exact_sums.specs.Saturating.{overflow}
 use Rattle.symbol_polys.specs.Symbols.{PlainSymbol, monomial_order, HasBoundedTree, IsMonomial}
 use Rattle.symbol_polys.specs.Polynomials.{PlainTerm, monomials, coefficient_of, size_of, IsPolynomial, times_all}
-use Rattle.symbol_polys.specs.View.{terms_of}
+use Rattle.symbol_polys.specs.View.{symbol_of, terms_of}
 use Rattle.symbol_polys.specs.declared.poly.Term.{Term}
 
 pub no_terms : (mass : ℤ) → pos 0 ≤ℤ mass → IsPolynomial mass []
@@ -76,7 +76,7 @@ not_zero-times_all z [] p h = tt
 not_zero-times_all z (t ∷ ts) p h =
     (omega (arith, unsigned_abs-mul z t.coefficient, above_zero (unsigned_abs z) (unsigned_abs t.coefficient) p h.0), not_zero-times_all z ts p h.1)
 
-below_mass : (n : ℕ) (mass : ℤ) → pos n ≤ℤ mass → n ≤ unsigned_abs mass
+pub below_mass : (n : ℕ) (mass : ℤ) → pos n ≤ℤ mass → n ≤ unsigned_abs mass
 below_mass n mass h = omega (arith, ints)
 
 at_most : (m n : ℕ) → m ≤ n → pos m ≤ℤ pos n
@@ -92,6 +92,12 @@ scaled z mass ts p h = record {
   not_zero = not_zero-times_all z ts p h.not_zero;
   within = at_most _ _ (omega (arith, size_of-times_all z ts, size_within z mass ts h.within));
 }
+
+-- each term's symbols are a monomial
+pub each_at : (ts : List Term) (i : ℕ) (t : Term) → i < length ts → t ≡ get_or ts i t → AllByRecursion IsMonomial (monomials (terms_of ts)) → IsMonomial (map symbol_of t.symbols)
+each_at [] i t h e a = absurd (omega arith)
+each_at (u ∷ ts) zero t h e a = rw e a.0
+each_at (u ∷ ts) (suc i) t h e a = each_at ts i t (omega arith) e a.1
 
 -- the coefficients of a product by a number are in range where the product of the mass is
 pub size_at : (ts : List Term) (i : ℕ) (t : Term) → i < length ts → t ≡ get_or ts i t → unsigned_abs t.coefficient ≤ size_of (terms_of ts)

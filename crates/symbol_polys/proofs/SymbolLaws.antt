@@ -1,13 +1,18 @@
 -- The orders of symbols and of monomials are total, and equal in them is equal.
-use Rattle.std.proofs.Common.{◌≡◌, ℕ, suc, zero, List, [], ◌∷◌, length, refl, sym, ap, ◌∙◌, Ordering, Less, Equal, Greater, nat_cmp}
+use Rattle.std.proofs.Common.{◌≡◌, ℕ, zero, suc, ◌<◌, ◌≤◌, List, [], ◌∷◌, length, get_or, map, arith, refl, sym, ap, ◌∙◌, Ordering, Less, Equal, Greater, nat_cmp}
 use Rattle.std.specs.Ordering.{ordering_reverse}
 use Rattle.std.specs.Cmp.{IsTotalOrder}
+use Rattle.std.specs.List.{AllByRecursion}
 use Rattle.std.specs.Cmp.Lexicographic.{slice_cmp}
 use Rattle.std.proofs.lemmas.Cmp.{on_total, then_total, lists_total, nat_cmp_total, nat_list_cmp_total}
 use Rattle.std.proofs.lemmas.Map.Lookups.{exact_unsigned, exact_bytes}
-use Rattle.plain_trees.specs.Plain.{Plain}
+use Rattle.plain_trees.specs.Plain.{Plain, edge_count_of}
 use Rattle.plain_trees.proofs.OrderLaws.{tree_order_total, tree_exact, both_equal}
-use Rattle.symbol_polys.specs.Symbols.{PlainSymbol, parameter, variable, noise, tree, expectation, rank, number_in, multiindex_in, tree_in, symbol_order, monomial_order}
+use Rattle.symbol_polys.specs.Code.{symbol_by, from_parts-parts}
+use Rattle.symbol_polys.specs.Polynomials.{PlainTerm, term_order}
+use Rattle.symbol_polys.specs.Symbols.{PlainSymbol, rank, number_in, multiindex_in, tree_in, symbol_order, monomial_order, HasBoundedTree}
+use Rattle.symbol_polys.specs.View.{symbol_of}
+use Rattle.symbol_polys.specs.declared.symbols.Symbol.{Symbol}
 
 pub symbol_order_total : IsTotalOrder symbol_order
 symbol_order_total =
@@ -17,34 +22,21 @@ symbol_order_total =
 pub monomial_order_total : IsTotalOrder monomial_order
 monomial_order_total = then_total (on_total length nat_cmp_total) (lists_total symbol_order_total)
 
--- a symbol is made of its parts
-made : ℕ → ℕ → List ℕ → Plain → PlainSymbol
-made zero i m t = parameter i
-made (suc zero) i m t = variable i m
-made (suc (suc zero)) i m t = noise i
-made (suc (suc (suc zero))) i m t = tree t
-made (suc (suc (suc (suc n)))) i m t = expectation t
+pub term_order_total : IsTotalOrder term_order
+term_order_total = on_total (λ (t : PlainTerm). t.symbols) monomial_order_total
 
-made_of : (s : PlainSymbol) → made (rank s) (number_in s) (multiindex_in s) (tree_in s) ≡ s
-unfolding made
-made_of (parameter i) = refl
-made_of (variable k m) = refl
-made_of (noise k) = refl
-made_of (tree t) = refl
-made_of (expectation t) = refl
-
-same_made : {i j k l : ℕ} {m n : List ℕ} {s t : Plain} → i ≡ j → k ≡ l → m ≡ n → s ≡ t → made i k m s ≡ made j l n t
-same_made a b c d = cc
+same_parts : {i j k l : ℕ} {m n : List ℕ} {s t : Plain} → i ≡ j → k ≡ l → m ≡ n → s ≡ t → symbol_by i k m s ≡ symbol_by j l n t
+same_parts a b c d = cc
 
 pub symbol_order_exact : (s t : PlainSymbol) → symbol_order s t ≡ Equal → s ≡ t
 symbol_order_exact s t h =
     let ranks = both_equal _ _ h in
     let numbers = both_equal _ _ ranks.1 in
     let multis = both_equal _ _ numbers.1 in
-    sym (made_of s)
-    ∙ same_made (exact_unsigned (rank s) (rank t) ranks.0) (exact_unsigned (number_in s) (number_in t) numbers.0)
+    sym (from_parts-parts s)
+    ∙ same_parts (exact_unsigned (rank s) (rank t) ranks.0) (exact_unsigned (number_in s) (number_in t) numbers.0)
     (exact_bytes (multiindex_in s) (multiindex_in t) multis.0) (tree_exact (tree_in s) (tree_in t) multis.1)
-    ∙ made_of t
+    ∙ from_parts-parts t
 
 symbols_exact : (m n : List PlainSymbol) → slice_cmp symbol_order m n ≡ Equal → m ≡ n
 symbols_exact [] [] h = refl
@@ -67,3 +59,9 @@ symbol_order_self s = own_equal (symbol_order s s) (symbol_order_total.antisymm 
 
 pub monomial_order_self : (m : List PlainSymbol) → monomial_order m m ≡ Equal
 monomial_order_self m = own_equal (monomial_order m m) (monomial_order_total.antisymm m m)
+
+-- the trees at each place of a monomial are small
+pub small_at : (m : List Symbol) (i : ℕ) (s : Symbol) → i < length m → s ≡ get_or m i s → AllByRecursion HasBoundedTree (map symbol_of m) → edge_count_of (tree_in (symbol_of s)) ≤ 24
+small_at [] i s h e a = absurd (omega arith)
+small_at (t ∷ m) zero s h e a = rw e a.0.1.edges
+small_at (t ∷ m) (suc i) s h e a = small_at m i s (omega arith) e a.1

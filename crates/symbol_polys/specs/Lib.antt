@@ -1,3 +1,4 @@
+pub mod Code
 pub mod Numerals
 pub mod Polynomials
 pub mod Symbols

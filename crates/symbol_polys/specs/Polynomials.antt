@@ -2,6 +2,7 @@
 --   PlainTerm == a coefficient and the symbols of a monomial
 --   monomials ts == the monomials of the terms
 --   coefficient_of m ts == the coefficient of the monomial m: the sum of the coefficients of the terms with m
+--   term_order t u == the order of the monomials of two terms
 --   size_of ts == the sum of the absolute coefficients
 --   IsPolynomial mass ts == the terms ascend, each monomial stands once, no coefficient is 0, and the sum of the absolute coefficients is at most the mass
 --   times z t, times_all z ts == a term, a list of terms, times the number z
@@ -9,7 +10,8 @@
 use Rattle.std.specs.Prelude.{ℕ, ◌<◌, cond, List, [], ◌∷◌, map, ⊤, ℤ, pos, ◌+ℤ◌, ◌*ℤ◌, ◌≤ℤ◌, unsigned_abs}
 use Rattle.std.specs.List.{AllByRecursion}
 use Rattle.std.specs.List.Sorted.{IsStrictlySortedBy}
-use Rattle.std.specs.Ordering.{is_eq}
+use Rattle.std.specs.Ordering.{is_eq, on}
+use Rattle.std.specs.declared.cmp.Ordering.{Ordering}
 use Rattle.exact_sums.specs.Sums.{total}
 use Rattle.symbol_polys.specs.Symbols.{PlainSymbol, monomial_order, IsMonomial}
 use Rattle.symbol_polys.specs.declared.error.PolyError.{PolyError}
@@ -25,6 +27,9 @@ monomials ts = map (λ t. t.symbols) ts
 abbrev pub coefficient_of : List PlainSymbol → List PlainTerm → ℤ
 coefficient_of m [] = pos 0
 coefficient_of m (t ∷ ts) = cond (is_eq (monomial_order t.symbols m)) t.coefficient (pos 0) +ℤ coefficient_of m ts
+
+abbrev pub term_order : PlainTerm → PlainTerm → Ordering
+term_order = on (λ t. t.symbols) monomial_order
 
 abbrev pub size_of : List PlainTerm → ℕ
 size_of ts = total (λ t. unsigned_abs t.coefficient) ts

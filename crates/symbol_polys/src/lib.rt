@@ -2,8 +2,11 @@
 //! is at least the sum of its absolute coefficients and bounds those of all that is made of it.
 #![tactic(auto)]
 
+mod collecting;
 mod error;
+mod masses;
 mod poly;
+mod sums;
 mod symbols;
 #[cfg(test)]
 mod tests;
@@ -11,5 +14,8 @@ mod text;
 
 pub use error::PolyError;
 pub use poly::{Poly, Term, one, scale, symbol, zero};
-pub use symbols::{Symbol, copy_symbol, copy_symbols, symbol_order, symbol_order_laws};
+pub use sums::add;
+pub use symbols::{
+    Symbol, copy_symbol, copy_symbols, monomial_order, symbol_order, symbol_order_laws,
+};
 pub use text::print_poly;

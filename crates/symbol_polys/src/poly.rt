@@ -1,13 +1,13 @@
 // Polynomials, and those that the calls make.
-ghost use Rattle.std.specs.Prelude.{◌≡◌, ◌<◌, ◌≤◌, ◌*◌, ◌*ℤ◌, pos, [], ◌∷◌, List, map, IfOk, IfErr, IsOkUnless, IfSome, MatchOption, unsigned_abs};
+ghost use Rattle.std.specs.Prelude.{◌≡◌, ◌<◌, ◌≤◌, ◌*◌, ◌*ℤ◌, pos, [], ◌∷◌, List, map, IfOk, IfErr, IsOkUnless, unsigned_abs};
 ghost use Rattle.exact_sums.specs.Saturating.{overflow};
 ghost use Rattle.symbol_polys.specs.Symbols.{PlainSymbol, HasBoundedTree, IsMonomial};
 ghost use Rattle.symbol_polys.specs.Polynomials.{coefficient_of, size_of, times, times_all, IsRefused};
 ghost use Rattle.symbol_polys.specs.View.{symbol_of, term_of, terms_of, IsPoly};
 
 use crate::error::PolyError;
+use crate::masses::scaled_mass;
 use crate::symbols::{Symbol, copy_symbols};
-use exact_sums::Saturated;
 use sqlite_items::Items;
 use std::alloc::Global;
 
@@ -27,7 +27,7 @@ pub struct Poly {
 }
 
 // The polynomial with these terms and this mass.
-fn made(terms: Items<Term>, mass: i128) -> Poly
+pub(crate) fn made(terms: Items<Term>, mass: i128) -> Poly
     ensures { result ≡ record { terms = terms; mass = mass } }
 {
     Poly { terms, mass }
@@ -82,17 +82,7 @@ pub fn symbol(alloc: Global, s: Symbol) -> Result<Poly, PolyError>
     single(alloc, symbols)
 }
 
-// The mass of a multiple, where it is at most 2^127-1.
-fn scaled_mass(f: &Poly, by: i128) -> Option<i128>
-    ensures value { MatchOption result (overflow ≤ unsigned_abs by * unsigned_abs f.now.mass) (λ z. z ≡ pos (unsigned_abs by * unsigned_abs f.now.mass)) }
-    ensures fits { IfSome result (λ z. unsigned_abs by * unsigned_abs f.now.mass < overflow) }
-{
-    Saturated::of(by.unsigned_abs())
-        .times(Saturated::of(f.mass.unsigned_abs()))
-        .value()
-}
-
-fn multiple(by: i128, z: i128) -> i128
+pub(crate) fn multiple(by: i128, z: i128) -> i128
     requires { unsigned_abs by * unsigned_abs z < overflow }
     ensures { result ≡ by *ℤ z }
 {

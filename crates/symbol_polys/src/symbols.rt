@@ -1,9 +1,10 @@
 // Symbols and their order.
 ghost use Rattle.std.specs.Prelude.{◌≡◌, ◌≤◌, ◌↔◌, IfOk, IsOkUnless, List, map};
 ghost use Rattle.std.specs.Cmp.{IsTotalOrder};
+ghost use Rattle.std.specs.List.{AllByRecursion};
 ghost use Rattle.std.specs.declared.cmp.Ordering.TheVariants.{Equal};
 ghost use Rattle.plain_trees.specs.Plain.{edge_count_of};
-ghost use Rattle.symbol_polys.specs.Symbols.{PlainSymbol, rank, tree_in, symbol_order, monomial_order};
+ghost use Rattle.symbol_polys.specs.Symbols.{PlainSymbol, rank, tree_in, symbol_order, monomial_order, HasBoundedTree};
 ghost use Rattle.symbol_polys.specs.View.{symbol_of};
 
 use crate::error::PolyError;
@@ -50,6 +51,25 @@ pub fn symbol_order(a: &Symbol, b: &Symbol) -> Ordering
         (Symbol::Expect(s), Symbol::Expect(t)) => order(s, t),
         _ => rank(a).cmp(&rank(b)),
     }
+}
+
+/// The order of monomials, as lists of symbols: by the number of symbols, then lexicographically.
+pub fn monomial_order(a: &[Symbol], b: &[Symbol]) -> Ordering
+    requires trees_a { AllByRecursion HasBoundedTree (map symbol_of a.now) }
+    requires trees_b { AllByRecursion HasBoundedTree (map symbol_of b.now) }
+    ensures { result ≡ monomial_order (map symbol_of a.now) (map symbol_of b.now) }
+{
+    match a.len().cmp(&b.len()) {
+        Ordering::Equal => {}
+        other => return other,
+    }
+    for i in 0..a.len().min(b.len()) {
+        match symbol_order(&a[i], &b[i]) {
+            Ordering::Equal => {}
+            other => return other,
+        }
+    }
+    Ordering::Equal
 }
 
 fn copied(alloc: Global, t: &Tree) -> Result<Tree, PolyError>

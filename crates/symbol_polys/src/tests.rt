@@ -1,4 +1,4 @@
-use crate::{PolyError, Symbol, copy_symbol, one, scale, symbol, symbol_order, zero};
+use crate::{PolyError, Symbol, add, copy_symbol, one, scale, symbol, symbol_order, zero};
 use degree_numbers::{Multi, TypeId};
 use plain_trees::Tree;
 use sqlite_items::Items;
@@ -38,6 +38,39 @@ fn the_mass_refuses_and_not_the_coefficient(rt: HostRuntime) {
     let back = scale(rt.alloc(), &most, -1).expect(&rt, "multiple");
     assert_eq!(rt; back.terms.len(), 1);
     assert_eq!(rt; back.terms.as_slice()[0].coefficient, -LARGEST);
+}
+
+#[test]
+fn a_sum_that_is_too_large(rt: HostRuntime) {
+    let unit = one(rt.alloc()).expect(&rt, "one");
+    let most = scale(rt.alloc(), &unit, LARGEST).expect(&rt, "multiple");
+    let least = scale(rt.alloc(), &unit, -LARGEST).expect(&rt, "multiple");
+    for p in [&most, &least] {
+        assert_eq!(rt;
+            add(rt.alloc(), p, &unit).err(),
+            Some(PolyError::CoefficientTooLarge)
+        );
+    }
+    let nothing = zero(rt.alloc()).expect(&rt, "zero");
+    let same = add(rt.alloc(), &nothing, &most).expect(&rt, "sum");
+    assert_eq!(rt; same.mass, LARGEST);
+    assert_eq!(rt; same.terms.len(), 1);
+    assert_eq!(rt; same.terms.as_slice()[0].coefficient, LARGEST);
+}
+
+#[test]
+fn a_sum_that_cancels_keeps_its_mass(rt: HostRuntime) {
+    let xi = symbol(rt.alloc(), Symbol::Noise(TypeId(0))).expect(&rt, "symbol");
+    let unit = one(rt.alloc()).expect(&rt, "one");
+    let both = add(rt.alloc(), &xi, &unit).expect(&rt, "sum");
+    assert_eq!(rt; both.mass, 2);
+    assert_eq!(rt; both.terms.len(), 2);
+    assert_eq!(rt; both.terms.as_slice()[0].symbols.len(), 0);
+    let minus = scale(rt.alloc(), &xi, -1).expect(&rt, "multiple");
+    let left = add(rt.alloc(), &both, &minus).expect(&rt, "sum");
+    assert_eq!(rt; left.mass, 3);
+    assert_eq!(rt; left.terms.len(), 1);
+    assert_eq!(rt; left.terms.as_slice()[0].symbols.len(), 0);
 }
 
 #[test]
