@@ -1,3 +1,9 @@
 pub mod Canonical
+pub mod Degrees
+pub mod Kernels
 pub mod Labels
+pub mod Lows
+pub mod NodeTypes
 pub mod Orders
+pub mod Roots
+pub mod Stems
