@@ -7,3 +7,4 @@ pub mod NodeTypes
 pub mod Orders
 pub mod Roots
 pub mod Stems
+pub mod Wholes

@@ -1,6 +1,5 @@
 -- The low degrees are at most the degrees of the trees.
-use Rattle.std.proofs.Common.{◌≡◌, ℕ, ◌+◌, ◌≤◌, ◌≤ℤ◌, pos, Bool, true, false, List, [], ◌∷◌, ◌++◌, refl, sym, ap, ◌∙◌, subst, inl, inr, arith}
-use Rattle.std.specs.Prelude.{if◌then◌else◌}
+use Rattle.std.proofs.Common.{◌≡◌, ℕ, ◌≤◌, List, [], ◌∷◌, ◌++◌, refl, sym, ap, ◌∙◌, subst, inl, inr, arith}
 use Rattle.std.specs.Ordering.{is_gt}
 use Rattle.std.proofs.lemmas.Int.{ints}
 use Rattle.degree_numbers.specs.declared.degree.Degree.{Degree}
@@ -24,7 +23,7 @@ pub lows-put_label : (ty : Types) (lows : List Degree) (e : EdgeLabel) (es : Lis
 lows-put_label ty lows e [] = refl
 lows-put_label ty lows e (f ∷ fs) =
     if_cons (is_gt (edge_label_order e f)) e f fs (put_label e fs) (λ gs. lows_of ty lows gs ≡ degree_plus (edge_low ty lows e) (degree_plus (edge_low ty lows f) (lows_of ty lows fs)))
-        (ap (degree_plus (edge_low ty lows f)) (lows-put_label ty lows e fs) ∙ plus_exchanges (edge_low ty lows f) (edge_low ty lows e) (lows_of ty lows fs)) refl
+    (ap (degree_plus (edge_low ty lows f)) (lows-put_label ty lows e fs) ∙ plus_exchanges (edge_low ty lows f) (edge_low ty lows e) (lows_of ty lows fs)) refl
 
 -- nodes have a degree of at least 0
 pub node_not_negative : (ty : Types) (n : List ℕ) → IsNotAbove degree_zero (node_degree_of ty n)
@@ -37,17 +36,17 @@ module _ (eq : Equation) (rule : Rule) (lows : List Degree) (low : AreLow eq rul
   low-allowed k t (inl noise) e d h =
       let here : IsNotAbove degree_zero (degree_of eq.types t) = subst (λ (es : List EdgeLabel). IsNotAbove (lows_of eq.types lows es) (degree_of eq.types t)) noise.1 h in
       subst (λ (x : Degree). IsNotAbove x (degree_plus (type_degree eq.types k) (degree_of eq.types t))) (plus_zero (type_degree eq.types k) ∙ sym (low.noises k noise.0))
-          (plus_not_above (type_degree eq.types k) (type_degree eq.types k) degree_zero (degree_of eq.types t) (not_above_self (type_degree eq.types k)) here)
+      (plus_not_above (type_degree eq.types k) (type_degree eq.types k) degree_zero (degree_of eq.types t) (not_above_self (type_degree eq.types k)) here)
   low-allowed k t (inr kernel) e d h =
       let row = kernel.0 in
       let n = kernel.3.0 in
       let same : labels n ≡ node_type_of t = kernel.3.2 in
       let below = low.kernels row n kernel.1 kernel.3.1 (subst IsUsable (sym same) (node_usable t e d)) in
       let named : IsNotAbove (low_at lows k) (degree_plus (type_degree eq.types k) (lows_of eq.types lows (node_type_of t))) =
-          subst (λ (es : List EdgeLabel). IsNotAbove (low_at lows k) (degree_plus (type_degree eq.types k) (lows_of eq.types lows es))) same
-              (subst (λ (l : ℕ). IsNotAbove (low_at lows l) (degree_plus (type_degree eq.types l) (lows_of eq.types lows (labels n)))) kernel.2 below) in
+      subst (λ (es : List EdgeLabel). IsNotAbove (low_at lows k) (degree_plus (type_degree eq.types k) (lows_of eq.types lows es))) same
+      (subst (λ (l : ℕ). IsNotAbove (low_at lows l) (degree_plus (type_degree eq.types l) (lows_of eq.types lows (labels n)))) kernel.2 below) in
       not_above_trans (low_at lows k) (degree_plus (type_degree eq.types k) (lows_of eq.types lows (node_type_of t))) (degree_plus (type_degree eq.types k) (degree_of eq.types t)) named
-          (plus_not_above (type_degree eq.types k) (type_degree eq.types k) (lows_of eq.types lows (node_type_of t)) (degree_of eq.types t) (not_above_self (type_degree eq.types k)) h)
+      (plus_not_above (type_degree eq.types k) (type_degree eq.types k) (lows_of eq.types lows (node_type_of t)) (degree_of eq.types t) (not_above_self (type_degree eq.types k)) h)
 
   -- an edge with what stands above it
   low-edge : (k : ℕ) (p : List ℕ) (t : Plain) → IsNotAbove (low_at lows k) (degree_plus (type_degree eq.types k) (degree_of eq.types t)) →
@@ -61,7 +60,7 @@ module _ (eq : Equation) (rule : Rule) (lows : List Degree) (low : AreLow eq rul
       let first = low-edge k p c (low-allowed k c h.0 (omega (arith, e)) (omega (arith, d)) (lows_not_above c h.1 (omega (arith, e)) (omega (arith, d)))) in
       let rest = lows_not_above t h.2 (omega (arith, e)) (omega (arith, d)) in
       subst (λ (x : Degree). IsNotAbove x (degree_of eq.types (graft k p c t))) (sym (lows-put_label eq.types lows (k, p) (node_type_of t)))
-          (plus_not_above (edge_low eq.types lows (k, p)) (degree_plus (edge_degree_of eq.types k p) (degree_of eq.types c)) (lows_of eq.types lows (node_type_of t)) (degree_of eq.types t) first rest)
+      (plus_not_above (edge_low eq.types lows (k, p)) (degree_plus (edge_degree_of eq.types k p) (degree_of eq.types c)) (lows_of eq.types lows (node_type_of t)) (degree_of eq.types t) first rest)
 
   pub edge_low_not_above : (k : ℕ) (p : List ℕ) (t : Plain) → IsAllowedAbove eq.types rule k t → ConformsAbove eq.types rule t → edge_count_of t ≤ 24 → decoration_sum_of t ≤ 64 →
       IsNotAbove (edge_low eq.types lows (k, p)) (degree_plus (edge_degree_of eq.types k p) (degree_of eq.types t))
