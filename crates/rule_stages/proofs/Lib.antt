@@ -1,1 +1,5 @@
+pub mod Joins
+pub mod KeptGap
 pub mod Next
+pub mod Parts
+pub mod Regularities

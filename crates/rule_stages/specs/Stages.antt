@@ -1,7 +1,7 @@
 -- The completion of a rule (after Bruned, Hairer and Zambotti, in our own wording): the stages of a rule, each with the node types that contractions of the
 -- listed trees of the one before it make.
 --   join es fs == the edge types of es and of fs together, in their order
---   IsRaised n ms rs == rs are the edge types ms, each raised by a multiindex; these multiindices are together at most n
+--   IsRaised n ms rs == rs are the edge types ms, each raised by a multiindex; these multiindices, with a rest, are together n
 --   IsAddition ty rule k t rs == at the root of t, which stands above an edge of type k: edge types can be added to those that leave the node so that the rule of k
 --       allows them together, and rs are these, raised, by the decoration of the node at most
 --   AreAdditionsAbove ty rule t rs == rs are additions at the nodes of t above the root, one at each node, together
@@ -20,7 +20,7 @@ use Rattle.std.specs.declared.cmp.Ordering.{Ordering}
 use Rattle.degree_numbers.specs.declared.types.Types.{Types}
 use Rattle.degree_numbers.specs.declared.types.Kind.TheVariants.{Kernel}
 use Rattle.degree_numbers.specs.Types.{kind_of}
-use Rattle.degree_numbers.specs.Multi.{plus_of, minus_of, IsAtMost}
+use Rattle.degree_numbers.specs.Multi.{plus_of}
 use Rattle.equation_file.specs.declared.equation.Equation.{Equation}
 use Rattle.ordered_lists.specs.Members.{IsIn}
 use Rattle.ordered_lists.specs.Subs.{IsSubMultiset}
@@ -37,7 +37,7 @@ abbrev pub IsRaised : List ℕ → List EdgeLabel → List EdgeLabel → Type 0
 IsRaised n [] [] = Unit {0}
 IsRaised n [] (r ∷ rs) = ⊥
 IsRaised n (m ∷ ms) [] = ⊥
-IsRaised n (m ∷ ms) (r ∷ rs) = (shift : List ℕ) × IsAtMost shift n × (r.0 ≡ m.0) × (r.1 ≡ plus_of m.1 shift) × IsRaised (minus_of n shift) ms rs
+IsRaised n (m ∷ ms) (r ∷ rs) = (shift rest : List ℕ) × (n ≡ plus_of shift rest) × (r.0 ≡ m.0) × (r.1 ≡ plus_of m.1 shift) × IsRaised rest ms rs
 
 abbrev pub IsAddition : Types → Rule → ℕ → Plain → List EdgeLabel → Type 0
 IsAddition ty rule k t rs = (ms : List EdgeLabel) × IsInRule ty rule k (join ms (node_type_of t)) × IsRaised (root_of t) ms rs

@@ -3,4 +3,4 @@
 
 mod laws;
 
-pub use laws::next_stage_laws;
+pub use laws::{next_stage_laws, stages_keep_the_gap};
