@@ -1,8 +1,10 @@
 pub mod AddLaws
 pub mod JoinLaws
+pub mod MonomialLaws
 pub mod Numerals
 pub mod PermutedLaws
 pub mod PolyLaws
 pub mod Powers
+pub mod ProductLaws
 pub mod Putting
 pub mod SymbolLaws

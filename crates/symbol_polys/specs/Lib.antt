@@ -1,6 +1,7 @@
 pub mod Code
 pub mod Numerals
 pub mod Polynomials
+pub mod Products
 pub mod Symbols
 pub mod Text
 pub mod View

@@ -6,6 +6,7 @@ mod collecting;
 mod error;
 mod masses;
 mod poly;
+mod products;
 mod sums;
 mod symbols;
 #[cfg(test)]
@@ -14,6 +15,7 @@ mod text;
 
 pub use error::PolyError;
 pub use poly::{Poly, Term, one, scale, symbol, zero};
+pub use products::mul;
 pub use sums::add;
 pub use symbols::{
     Symbol, copy_symbol, copy_symbols, monomial_order, symbol_order, symbol_order_laws,

@@ -22,3 +22,12 @@ pub(crate) fn mass_sum(f: &Poly, g: &Poly) -> Option<i128>
         .plus(Saturated::of(g.mass.unsigned_abs()))
         .value()
 }
+
+pub(crate) fn mass_product(f: &Poly, g: &Poly) -> Option<i128>
+    ensures value { MatchOption result (overflow ≤ unsigned_abs f.now.mass * unsigned_abs g.now.mass) (λ z. z ≡ pos (unsigned_abs f.now.mass * unsigned_abs g.now.mass)) }
+    ensures fits { IfSome result (λ z. unsigned_abs f.now.mass * unsigned_abs g.now.mass < overflow) }
+{
+    Saturated::of(f.mass.unsigned_abs())
+        .times(Saturated::of(g.mass.unsigned_abs()))
+        .value()
+}

@@ -1,4 +1,4 @@
-use crate::{PolyError, Symbol, add, copy_symbol, one, scale, symbol, symbol_order, zero};
+use crate::{PolyError, Symbol, add, copy_symbol, mul, one, scale, symbol, symbol_order, zero};
 use degree_numbers::{Multi, TypeId};
 use plain_trees::Tree;
 use sqlite_items::Items;
@@ -71,6 +71,46 @@ fn a_sum_that_cancels_keeps_its_mass(rt: HostRuntime) {
     assert_eq!(rt; left.mass, 3);
     assert_eq!(rt; left.terms.len(), 1);
     assert_eq!(rt; left.terms.as_slice()[0].symbols.len(), 0);
+}
+
+#[test]
+fn products_of_a_sum_and_a_difference(rt: HostRuntime) {
+    let u = symbol(rt.alloc(), Symbol::Variable(TypeId(1), Multi::zero())).expect(&rt, "symbol");
+    let xi = symbol(rt.alloc(), Symbol::Noise(TypeId(0))).expect(&rt, "symbol");
+    let minus = scale(rt.alloc(), &xi, -1).expect(&rt, "multiple");
+    let sum = add(rt.alloc(), &xi, &u).expect(&rt, "sum");
+    let difference = add(rt.alloc(), &u, &minus).expect(&rt, "difference");
+    let square = mul(rt.alloc(), &sum, &sum).expect(&rt, "square");
+    assert_eq!(rt; square.mass, 4);
+    assert_eq!(rt; square.terms.len(), 3);
+    let coefficients = [1, 2, 1];
+    for i in 0..coefficients.len() {
+        assert_eq!(rt; square.terms.as_slice()[i].coefficient, coefficients[i]);
+        assert_eq!(rt; square.terms.as_slice()[i].symbols.len(), 2);
+    }
+    let squares = mul(rt.alloc(), &sum, &difference).expect(&rt, "product");
+    assert_eq!(rt; squares.mass, 4);
+    assert_eq!(rt; squares.terms.len(), 2);
+    assert_eq!(rt; squares.terms.as_slice()[0].coefficient, 1);
+    assert_eq!(rt; squares.terms.as_slice()[1].coefficient, -1);
+}
+
+#[test]
+fn a_product_that_is_too_large(rt: HostRuntime) {
+    let unit = one(rt.alloc()).expect(&rt, "one");
+    let low = scale(rt.alloc(), &unit, 1 << 63).expect(&rt, "multiple");
+    let high = scale(rt.alloc(), &unit, -(1 << 64)).expect(&rt, "multiple");
+    assert_eq!(rt;
+        mul(rt.alloc(), &low, &high).err(),
+        Some(PolyError::CoefficientTooLarge)
+    );
+    let square = mul(rt.alloc(), &low, &low).expect(&rt, "square");
+    assert_eq!(rt; square.mass, 1 << 126);
+    let nothing = zero(rt.alloc()).expect(&rt, "zero");
+    assert_eq!(rt;
+        mul(rt.alloc(), &high, &nothing).expect(&rt, "product").mass,
+        0
+    );
 }
 
 #[test]
