@@ -1,3 +1,5 @@
+pub mod CanonAdditions
+pub mod Contracted
 pub mod Joins
 pub mod KeptGap
 pub mod Next
