@@ -1,11 +1,11 @@
 -- What is made of a tree is made of its canonical form.
-use Rattle.std.proofs.Common.{◌≡◌, ℕ, ◌+◌, true, false, Bool, List, [], ◌∷◌, refl, sym, ap, ◌∙◌, subst, arith}
+use Rattle.std.proofs.Common.{◌≡◌, ℕ, true, false, Bool, List, refl, sym, ap, ◌∙◌, subst, arith}
 use Rattle.std.specs.Ordering.{is_gt}
 use Rattle.degree_numbers.specs.declared.types.Types.{Types}
 use Rattle.plain_trees.specs.Plain.{Plain, bare, graft, root_of}
 use Rattle.plain_trees.specs.Canon.{Planted, planted_order, with_edge, canon}
 use Rattle.normal_rule.specs.declared.rule.Rule.{Rule}
-use Rattle.conforming_trees.specs.Conforming.{EdgeLabel, node_type_of, IsInRule}
+use Rattle.conforming_trees.specs.Conforming.{EdgeLabel, IsInRule}
 use Rattle.conforming_trees.proofs.Labels.{IsInLabelOrder, same_labels}
 use Rattle.conforming_trees.proofs.Canonical.{node_type-canon}
 use Rattle.rule_stages.specs.Stages.{join, IsRaised, IsAddition, AreAdditionsAbove, AreAdditions}

@@ -1,5 +1,5 @@
 -- What a contraction makes of the node types: the edges that leave a component, raised, are additions at its nodes.
-use Rattle.std.proofs.Common.{◌≡◌, ℕ, ◌+◌, true, false, List, [], ◌∷◌, refl, sym, ap, ◌∙◌, subst, arith}
+use Rattle.std.proofs.Common.{◌≡◌, ℕ, true, false, List, [], ◌∷◌, refl, sym, ap, ◌∙◌, subst, arith}
 use Rattle.degree_numbers.specs.declared.types.Types.{Types}
 use Rattle.degree_numbers.specs.Multi.{plus_of}
 use Rattle.plain_trees.specs.Plain.{Plain, bare, graft, root_of}
@@ -54,7 +54,7 @@ put-join e es fs h =
     same_labels (join (put_label e es) fs) (put_label e (join es fs)) (join-sorted (put_label e es) fs h) (put-sorted e (join es fs) (join-sorted es fs h))
     (λ z. omega (arith, count-join z (put_label e es) fs, count-put z e es, count-put z e (join es fs), count-join z es fs))
 
-node_type-parted : (m : CutTree) → node_type_of (tree_of m) ≡ join (outside m) (node_type_of (root_component m))
+pub node_type-parted : (m : CutTree) → node_type_of (tree_of m) ≡ join (outside m) (node_type_of (root_component m))
 node_type-parted (node a l) = refl
 node_type-parted (edge true s k p c r) =
     ap (put_label (k, p)) (node_type-parted r) ∙ sym (join-put (k, p) (outside r) (node_type_of (root_component r)) (node_type-sorted (root_component r)))

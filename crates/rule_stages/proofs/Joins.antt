@@ -104,3 +104,12 @@ part_of_join (a ∷ xs) bs es s h =
           let rest = part_of_join xs bs new.0 s new.1 in
           (a ∷ rest.0, rest.1, inl (refl, rest.2), rest.3, new.2 ∙ ap (put_label a) rest.4)
     ]
+
+-- a list into which an edge type was put is not empty
+pub put-some : (e : EdgeLabel) (es : List EdgeLabel) → put_label e es ≡ [] → ⊥
+put-some e [] h = absurd cc
+put-some e (f ∷ fs) h = go (is_gt (edge_label_order e f)) refl h
+  where
+    go : (a : Bool) → is_gt (edge_label_order e f) ≡ a → put_label e (f ∷ fs) ≡ [] → ⊥
+    go true q k = absurd (let m : f ∷ put_label e fs ≡ [] = sym (rw q refl) ∙ k in cc)
+    go false q k = absurd (let m : e ∷ f ∷ fs ≡ [] = sym (rw q refl) ∙ k in cc)

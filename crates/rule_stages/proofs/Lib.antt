@@ -1,4 +1,6 @@
 pub mod CanonAdditions
+pub mod Closed
+pub mod Components
 pub mod Contracted
 pub mod Joins
 pub mod KeptGap

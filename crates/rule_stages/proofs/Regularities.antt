@@ -19,6 +19,7 @@ use Rattle.tree_cuttings.proofs.Degrees.{below_low, size_plus}
 use Rattle.conforming_trees.specs.Conforming.{EdgeLabel, edge_label_order, label, labels, put_label, node_type_of, IsInKernelRow, IsInRule, IsRule}
 use Rattle.conforming_trees.specs.Listed.{IsListed}
 use Rattle.rule_stages.specs.Stages.{join, IsRaised, IsAddition, AreAdditionsAbove, IsMade, IsNextStage}
+use Rattle.rule_stages.proofs.Joins.{put-some}
 use Rattle.rule_stages.proofs.Parts.{made-part}
 
 abbrev label_regularity : Equation → EdgeLabel → ℤ
@@ -82,15 +83,6 @@ noise-regularity eq k h = go (slice_get eq.types.list k) refl h
     go : (o : Option TypeEntry) → slice_get eq.types.list k ≡ o → kind_of eq.types k ≡ Some Noise → regularity_of eq k ≡ (type_degree eq.types k).a
     go None at n = absurd (let m : None ≡ Some Noise = sym (rw at refl) ∙ n in cc)
     go (Some e) at n = some (Some e) e refl n at
-
--- a list into which an edge type was put is not empty
-put-some : (e : EdgeLabel) (es : List EdgeLabel) → put_label e es ≡ [] → ⊥
-put-some e [] h = absurd cc
-put-some e (f ∷ fs) h = go (is_gt (edge_label_order e f)) refl h
-  where
-    go : (a : Bool) → is_gt (edge_label_order e f) ≡ a → put_label e (f ∷ fs) ≡ [] → ⊥
-    go true q k = absurd (let m : f ∷ put_label e fs ≡ [] = sym (rw q refl) ∙ k in cc)
-    go false q k = absurd (let m : e ∷ f ∷ fs ≡ [] = sym (rw q refl) ∙ k in cc)
 
 join-none : (ms es : List EdgeLabel) → join ms es ≡ [] → (ms ≡ []) × (es ≡ [])
 join-none [] es h = (refl, h)
