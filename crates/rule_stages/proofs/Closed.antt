@@ -31,7 +31,7 @@ use Rattle.rule_stages.proofs.Joins.{put-some}
 use Rattle.rule_stages.proofs.Contracted.{component-additions, conforms-joined}
 
 -- Boolean tests that hold together
-both : (a b : Bool) → (a && b) ≡ true → (a ≡ true) × (b ≡ true)
+pub both : (a b : Bool) → (a && b) ≡ true → (a ≡ true) × (b ≡ true)
 both true b h = (refl, h)
 both false b h = absurd cc
 

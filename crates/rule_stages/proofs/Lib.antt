@@ -1,9 +1,11 @@
 pub mod CanonAdditions
 pub mod Closed
+pub mod ClosedCuttings
 pub mod Components
 pub mod Contracted
 pub mod Joins
 pub mod KeptGap
 pub mod Next
 pub mod Parts
+pub mod ReadDown
 pub mod Regularities

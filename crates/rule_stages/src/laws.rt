@@ -1,9 +1,13 @@
 // Laws of the stages of a completion.
 ghost use Rattle.std.specs.Prelude.{ℕ, ℤ, List, ◌⊎◌};
 ghost use Rattle.equation_file.specs.declared.equation.Equation.{Equation};
+ghost use Rattle.equation_file.specs.Accepted.{IsEquation};
+ghost use Rattle.plain_trees.specs.Plain.{Plain};
+ghost use Rattle.plain_trees.specs.Degree.{HasTypes};
 ghost use Rattle.normal_rule.specs.declared.rule.Rule.{Rule};
 ghost use Rattle.normal_rule.specs.Regularity.{IsSubcritical, IsGap};
-ghost use Rattle.conforming_trees.specs.Conforming.{EdgeLabel, IsInKernelRow, IsRule};
+ghost use Rattle.conforming_trees.specs.Conforming.{EdgeLabel, IsInKernelRow, IsConforming, IsRule};
+ghost use Rattle.rule_stages.specs.Closure.{IsClosedUnderCutting};
 ghost use Rattle.rule_stages.specs.Stages.{IsMade, IsNextStage, IsStage};
 
 /// The next stage is the least normal rule that holds the rule and all that is made. A part of what is made is made as well, so the next stage has nothing else.
@@ -18,4 +22,10 @@ pub fn next_stage_laws()
 pub fn stages_keep_the_gap()
     ensures subcritical { (eq : Equation) (base rule : Rule) (j : ℕ) → IsRule eq base → IsSubcritical eq base → IsStage eq base j rule → IsSubcritical eq rule }
     ensures gap { (eq : Equation) (base rule : Rule) (j : ℕ) (g : ℤ) → IsRule eq base → IsSubcritical eq base → IsGap eq base g → IsStage eq base j rule → IsGap eq rule g }
+{}
+
+/// A rule that equals its next stage is closed under cutting: of a tree over the types that strongly conforms to it, each component of a cutting whose components
+/// are all unplanted and of negative degree is, in canonical form, a listed tree, and the quotient strongly conforms.
+pub fn completion_is_closed()
+    ensures { (eq : Equation) (rule : Rule) (t : Plain) → IsEquation eq → IsRule eq rule → IsNextStage eq rule rule → HasTypes eq.types t → IsConforming eq.types rule t → IsClosedUnderCutting eq rule t }
 {}

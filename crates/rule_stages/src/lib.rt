@@ -3,4 +3,4 @@
 
 mod laws;
 
-pub use laws::{next_stage_laws, stages_keep_the_gap};
+pub use laws::{completion_is_closed, next_stage_laws, stages_keep_the_gap};
