@@ -1,4 +1,5 @@
 pub mod AddLaws
+pub mod DerivativeLaws
 pub mod JoinLaws
 pub mod MonomialLaws
 pub mod Numerals

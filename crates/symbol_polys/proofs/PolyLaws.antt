@@ -68,7 +68,7 @@ coefficient_of-times_all z m (t ∷ ts) =
     ∙ ap (λ (c : ℤ). z *ℤ cond here t.coefficient (pos 0) +ℤ c) (coefficient_of-times_all z m ts)
     ∙ sym (times_sum z (cond here t.coefficient (pos 0)) (coefficient_of m ts))
 
-above_zero : (a b : ℕ) → 0 < a → 0 < b → 0 < a * b
+pub above_zero : (a b : ℕ) → 0 < a → 0 < b → 0 < a * b
 above_zero a b p q = omega (arith, mul-le 1 1 a b (omega arith) (omega arith))
 
 not_zero-times_all : (z : ℤ) (ts : List PlainTerm) → 0 < unsigned_abs z → AllByRecursion (λ t. 0 < unsigned_abs t.coefficient) ts → AllByRecursion (λ t. 0 < unsigned_abs t.coefficient) (times_all z ts)

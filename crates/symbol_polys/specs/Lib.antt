@@ -1,4 +1,5 @@
 pub mod Code
+pub mod Derivatives
 pub mod Numerals
 pub mod Polynomials
 pub mod Products

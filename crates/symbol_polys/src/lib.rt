@@ -3,6 +3,7 @@
 #![tactic(auto)]
 
 mod collecting;
+mod derivatives;
 mod error;
 mod masses;
 mod poly;
@@ -13,6 +14,7 @@ mod symbols;
 mod tests;
 mod text;
 
+pub use derivatives::derive;
 pub use error::PolyError;
 pub use poly::{Poly, Term, one, scale, symbol, zero};
 pub use products::mul;

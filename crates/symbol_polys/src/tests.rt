@@ -1,7 +1,10 @@
-use crate::{PolyError, Symbol, add, copy_symbol, mul, one, scale, symbol, symbol_order, zero};
+use crate::{
+    PolyError, Symbol, add, copy_symbol, derive, mul, one, scale, symbol, symbol_order, zero,
+};
 use degree_numbers::{Multi, TypeId};
 use plain_trees::Tree;
 use sqlite_items::Items;
+use std::cmp::Ordering;
 
 const LARGEST: i128 = i128::MAX;
 
@@ -110,6 +113,53 @@ fn a_product_that_is_too_large(rt: HostRuntime) {
     assert_eq!(rt;
         mul(rt.alloc(), &high, &nothing).expect(&rt, "product").mass,
         0
+    );
+}
+
+#[test]
+fn derivatives_by_a_variable(rt: HostRuntime) {
+    let name = Symbol::Variable(TypeId(1), Multi::zero());
+    let copy = copy_symbol(rt.alloc(), &name).expect(&rt, "copy");
+    let u = symbol(rt.alloc(), copy).expect(&rt, "symbol");
+    let xi = symbol(rt.alloc(), Symbol::Noise(TypeId(0))).expect(&rt, "symbol");
+    let square = mul(rt.alloc(), &u, &u).expect(&rt, "product");
+    let one_term = mul(rt.alloc(), &square, &xi).expect(&rt, "product");
+    let f = scale(rt.alloc(), &one_term, 3).expect(&rt, "multiple");
+    let p = derive(rt.alloc(), &f, &name).expect(&rt, "derivative");
+    assert_eq!(rt; p.mass, 6);
+    assert_eq!(rt; p.terms.len(), 1);
+    assert_eq!(rt; p.terms.as_slice()[0].coefficient, 6);
+    let symbols = p.terms.as_slice()[0].symbols.as_slice();
+    assert_eq!(rt; symbols.len(), 2);
+    assert_eq!(rt; symbol_order(&symbols[0], &name), Ordering::Equal);
+    assert_eq!(rt;
+        symbol_order(&symbols[1], &Symbol::Noise(TypeId(0))),
+        Ordering::Equal
+    );
+    let nothing = derive(rt.alloc(), &f, &Symbol::Noise(TypeId(9))).expect(&rt, "derivative");
+    assert_eq!(rt; (nothing.mass, nothing.terms.len()), (0, 0));
+}
+
+#[test]
+fn the_coefficients_of_a_derivative_refuse_and_not_its_old_mass(rt: HostRuntime) {
+    let name = Symbol::Noise(TypeId(0));
+    let xi = symbol(rt.alloc(), Symbol::Noise(TypeId(0))).expect(&rt, "symbol");
+    let square = mul(rt.alloc(), &xi, &xi).expect(&rt, "square");
+    let most = scale(rt.alloc(), &square, LARGEST).expect(&rt, "multiple");
+    assert_eq!(rt;
+        derive(rt.alloc(), &most, &name).err(),
+        Some(PolyError::CoefficientTooLarge)
+    );
+    let half = scale(rt.alloc(), &square, LARGEST / 2).expect(&rt, "multiple");
+    let minus = scale(rt.alloc(), &half, -1).expect(&rt, "multiple");
+    let sum = add(rt.alloc(), &half, &xi).expect(&rt, "sum");
+    let left = add(rt.alloc(), &sum, &minus).expect(&rt, "sum");
+    assert_eq!(rt; left.mass, LARGEST);
+    assert_eq!(rt;
+        derive(rt.alloc(), &left, &name)
+            .expect(&rt, "derivative")
+            .mass,
+        1
     );
 }
 
