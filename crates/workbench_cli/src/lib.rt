@@ -9,6 +9,8 @@ mod tests;
 mod text;
 mod top;
 mod verdict;
+#[cfg(test)]
+mod whole_files;
 mod words;
 
 pub use lines::print_refusal;

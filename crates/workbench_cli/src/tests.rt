@@ -19,21 +19,24 @@ const PHI4_4D: &str =
 const KPZ: &str =
     "version = 1\nscaling = [2, 1]\n[[noise]]\nname = \"xi\"\ndegree = \"-3/2-k\"\n[[unknown]]\nname = \"u\"\ndegree = \"2\"\nregularity = \"1/2\"\nright = \"u'(0,1)^2+xi\"\n";
 
+// Room for a check text of 2,000 lines.
+const ROOM: usize = 400_000;
+
 // What a run of the program left.
 #[derive(Debug, PartialEq, Eq, Drop)]
-struct Run {
-    code: u8,
-    out: Vec<u8>,
-    err: Vec<u8>,
+pub struct Run {
+    pub code: u8,
+    pub out: Vec<u8>,
+    pub err: Vec<u8>,
 }
 
 // One text by its name.
 #[tactic(auto, using(wb_outside::proofs::TextLemmas::distinct_one))]
-fn one_text(alloc: Global, name: &str, text: &str) -> Result<Vec<NamedText>, AllocError>
+fn one_text(alloc: Global, name: &str, text: &[u8]) -> Result<Vec<NamedText>, AllocError>
     ensures { IfOk result (λ texts. AreDistinct texts.items) }
 {
     let name = name.as_bytes().to_vec(alloc)?;
-    let bytes = text.as_bytes().to_vec(alloc)?;
+    let bytes = text.to_vec(alloc)?;
     let mut texts = Vec::new(alloc);
     texts.push(NamedText { name, bytes })?;
     Ok(texts)
@@ -49,18 +52,18 @@ fn words_of(alloc: Global, line: &str) -> Result<Vec<String>, AllocError> {
 }
 
 // The program over one file, which is named `file`. The calls with these numbers fail.
-fn run_program(
+pub fn run_program(
     alloc: Global,
     line: &str,
-    text: &str,
+    text: &[u8],
     failing_reads: &[u64],
     failing_writes: &[u64],
 ) -> Result<Run, OutsideError> {
     let words = words_of(alloc, line)?;
     let texts = one_text(alloc, "file", text)?;
     let mut files = MemoryFiles::new(alloc, texts, failing_reads.to_vec(alloc)?);
-    let mut out = MemorySink::new(alloc, 1000, failing_writes.to_vec(alloc)?)?;
-    let mut err = MemorySink::new(alloc, 1000, Vec::new(alloc))?;
+    let mut out = MemorySink::new(alloc, ROOM, failing_writes.to_vec(alloc)?)?;
+    let mut err = MemorySink::new(alloc, ROOM, Vec::new(alloc))?;
     let status = workbench(alloc, &words, &mut files, &mut out, &mut err);
     Ok(Run {
         code: status.code,
@@ -91,7 +94,7 @@ fn equations_are_accepted_or_refused(rt: HostRuntime) -> Result<(), Fail> {
         ("scalin", "", 4, "", "refused 4 NotToml\n"),
     ] {
         let text = text.replace(rt.alloc(), "REGULARITY", regularity)?;
-        let run = run_program(rt.alloc(), "check file", &text, &[], &[])?;
+        let run = run_program(rt.alloc(), "check file", text.as_bytes(), &[], &[])?;
         assert_eq!(rt; run.code, code);
         assert_eq!(rt; run.out.as_slice(), out.as_bytes());
         assert_eq!(rt; run.err.as_slice(), err.as_bytes());
@@ -102,7 +105,7 @@ fn equations_are_accepted_or_refused(rt: HostRuntime) -> Result<(), Fail> {
 #[test]
 fn other_words_are_refused(rt: HostRuntime) -> Result<(), Fail> {
     for line in ["", "check", "chek file", "check -file", "check file file"] {
-        let run = run_program(rt.alloc(), line, PHI4_2D, &[], &[])?;
+        let run = run_program(rt.alloc(), line, PHI4_2D.as_bytes(), &[], &[])?;
         assert_eq!(rt; (run.code, run.out.len()), (2, 0), "{line}");
         assert_eq!(rt; run.err.as_slice(), b"refused 2 Words\n".as_slice());
     }
@@ -111,12 +114,12 @@ fn other_words_are_refused(rt: HostRuntime) -> Result<(), Fail> {
 
 #[test]
 fn faults_of_files_and_sinks_are_told(rt: HostRuntime) -> Result<(), Fail> {
-    let unread = run_program(rt.alloc(), "check file", PHI4_2D, &[1], &[])?;
+    let unread = run_program(rt.alloc(), "check file", PHI4_2D.as_bytes(), &[1], &[])?;
     assert_eq!(rt; (unread.code, unread.out.len()), (3, 0));
     assert_eq!(rt; unread.err.as_slice(), b"refused 3 FileFault\n".as_slice());
-    let absent = run_program(rt.alloc(), "check other", PHI4_2D, &[], &[])?;
+    let absent = run_program(rt.alloc(), "check other", PHI4_2D.as_bytes(), &[], &[])?;
     assert_eq!(rt; absent.code, 3);
-    let unwritten = run_program(rt.alloc(), "check file", PHI4_2D, &[], &[1])?;
+    let unwritten = run_program(rt.alloc(), "check file", PHI4_2D.as_bytes(), &[], &[1])?;
     assert_eq!(rt; (unwritten.code, unwritten.out.len()), (15, 0));
     assert_eq!(rt;
         unwritten.err.as_slice(),
