@@ -9,17 +9,17 @@ use Rattle.degree_numbers.specs.Types.{IsWritable, IsNoiseEntry, IsKernelEntry}
 use Rattle.degree_numbers.specs.Written.{above_zero, in_units_of, degree_in}
 use Rattle.degree_numbers.proofs.InUnits.{in_units_in_range, in_units_size, rounded_up_most, in_units_zero, in_units_above}
 use Rattle.right_side_text.specs.declared.written.WrittenFraction.{WrittenFraction}
-use Rattle.equation_file.specs.declared.document.Document.{Document}
-use Rattle.equation_file.specs.declared.document.NoiseEntry.{NoiseEntry}
-use Rattle.equation_file.specs.declared.document.UnknownEntry.{UnknownEntry}
-use Rattle.equation_file.specs.DegreeEntry.{written, is_standard, rounded_up, degree_size}
-use Rattle.equation_file.specs.FirstOf.{over}
-use Rattle.equation_file.specs.Limits.{noise_number, unknown_number, noise_size, unknown_size, with_fractions, noise_fractions, unknown_fractions, degree_fractions, units_of}
+use Rattle.equation_document.specs.declared.document.Document.{Document}
+use Rattle.equation_document.specs.declared.document.NoiseEntry.{NoiseEntry}
+use Rattle.equation_document.specs.declared.document.UnknownEntry.{UnknownEntry}
+use Rattle.equation_document.specs.DegreeEntry.{written, is_standard, rounded_up, degree_size}
+use Rattle.equation_document.specs.FirstOf.{over}
+use Rattle.equation_document.specs.Limits.{noise_number, unknown_number, noise_size, unknown_size, with_fractions, noise_fractions, unknown_fractions, degree_fractions, units_of}
 use Rattle.equation_file.specs.Meaning.{noise_type, kernel_type}
-use Rattle.equation_file.proofs.DocumentRead.{IsDegreeRead, IsUnknownRead}
-use Rattle.equation_file.proofs.Everywhere.{all_parts}
-use Rattle.equation_file.proofs.FirstOfLemmas.{neither, within}
-use Rattle.equation_file.proofs.LeastCommon.{plain, zero_is, both, least_clears}
+use Rattle.equation_document.proofs.DocumentRead.{IsDegreeRead, IsUnknownRead}
+use Rattle.equation_document.proofs.Everywhere.{all_parts}
+use Rattle.equation_document.proofs.FirstOfLemmas.{neither, within}
+use Rattle.equation_document.proofs.LeastCommon.{plain, zero_is, both, least_clears}
 
 abbrev pub AreCleared : ℕ → Written → Type 0
 AreCleared l w = Clears l w.plain × Clears l w.with_k

@@ -1,16 +1,7 @@
 pub mod Accepted
 pub mod Collect
-pub mod Counted
-pub mod DegreeEntry
-pub mod Denominator
 pub mod EdgeTypes
 pub mod File
-pub mod FirstOf
-pub mod Gives
-pub mod Limits
 pub mod Meaning
-pub mod Names
 pub mod Products
-pub mod Reading
 pub mod Refusals
-pub mod Terms

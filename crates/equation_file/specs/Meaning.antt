@@ -11,15 +11,15 @@ use Rattle.degree_numbers.specs.declared.types.TypeEntry.{TypeEntry}
 use Rattle.degree_numbers.specs.declared.types.Types.{Types}
 use Rattle.degree_numbers.specs.Written.{degree_in}
 use Rattle.right_side_text.specs.declared.written.WrittenTerm.{WrittenTerm}
-use Rattle.equation_file.specs.declared.document.Document.{Document}
-use Rattle.equation_file.specs.declared.document.NoiseEntry.{NoiseEntry}
-use Rattle.equation_file.specs.declared.document.UnknownEntry.{UnknownEntry}
+use Rattle.equation_document.specs.declared.document.Document.{Document}
+use Rattle.equation_document.specs.declared.document.NoiseEntry.{NoiseEntry}
+use Rattle.equation_document.specs.declared.document.UnknownEntry.{UnknownEntry}
 use Rattle.equation_file.specs.declared.equation.Equation.{Equation}
 use Rattle.equation_file.specs.declared.equation.Unknown.{Unknown}
-use Rattle.equation_file.specs.declared.names.Names.{Names}
+use Rattle.equation_document.specs.declared.names.Names.{Names}
 use Rattle.equation_file.specs.Collect.{collected}
-use Rattle.equation_file.specs.Limits.{units_of, denominator_of}
-use Rattle.equation_file.specs.Names.{place_of, stands_in}
+use Rattle.equation_document.specs.Limits.{units_of, denominator_of}
+use Rattle.equation_document.specs.Names.{place_of, stands_in}
 use Rattle.equation_file.specs.Products.{five, products}
 
 abbrev pub with_group : List (List ℕ) → NoiseEntry → List (List ℕ)

@@ -1,20 +1,20 @@
 // The equation that a document writes down.
 ghost use Rattle.std.specs.Prelude.{◌≡◌, ◌≤◌, ◌<◌, ◌+◌, ◌++◌, ℕ, pos, None, length, map, take, slice_index, Ok, IfOk, OnOk};
 ghost use Rattle.equation_file.specs.Collect.{collected};
-ghost use Rattle.equation_file.specs.FirstOf.{over, first_of};
-ghost use Rattle.equation_file.specs.Limits.{noise_number, unknown_number, right_terms, limits_of};
-ghost use Rattle.equation_file.specs.Counted.{AreCounted};
+ghost use Rattle.equation_document.specs.FirstOf.{over, first_of};
+ghost use Rattle.equation_document.specs.Limits.{noise_number, unknown_number, right_terms, limits_of};
+ghost use Rattle.equation_document.specs.Counted.{AreCounted};
 ghost use Rattle.equation_file.specs.Meaning.{groups_of, noise_type, kernel_type, type_list, types_of, unknown_of, unknowns_from, equation_in, document_equation};
 ghost use Rattle.equation_file.specs.Products.{five, products};
-ghost use Rattle.equation_file.specs.Terms.{term_derivative};
+ghost use Rattle.equation_document.specs.Terms.{term_derivative};
 
 use crate::collect::collected;
-use crate::document::{Document, NoiseEntry, UnknownEntry};
 use crate::equation::{Equation, RightTerm, Unknown};
-use crate::limits::{denominator_of, units_of};
-use crate::names::{Names, place_of, stands_in};
 use crate::resolve::{five, products_of};
 use degree_numbers::{Kind, Name, TypeEntry, TypeId, Types, Units};
+use equation_document::{
+    Document, Names, NoiseEntry, UnknownEntry, denominator_of, place_of, stands_in, units_of,
+};
 use right_side_text::WrittenTerm;
 use sqlite_items::Items;
 use std::alloc::{AllocError, Global};

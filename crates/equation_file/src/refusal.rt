@@ -3,7 +3,7 @@ ghost use Rattle.std.specs.Prelude.{◌≡◌, ◌++◌, IfOk, OnOk};
 ghost use Rattle.equation_file.specs.Refusals.{section_text, field_text, item_text, entry_text, refusal_of};
 ghost use Rattle.equation_file.specs.declared.refusal.FileRefusal.TheVariants.{Memory};
 
-use crate::fault::{Entry, Fault, Field, Reason, Section, Which};
+use equation_document::{Entry, Fault, Field, Reason, Section, Which};
 use sqlite_items::Items;
 use std::alloc::{AllocError, Global};
 

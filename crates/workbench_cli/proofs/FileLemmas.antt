@@ -2,7 +2,7 @@
 use Rattle.std.proofs.Common.{◌≡◌, ◌<◌, ◌⊎◌, inl, inr, ℕ, List, length, take, nat_lt, true, false, Result, Ok, Err, IfErr, pos, arith, refl, sym, ◌∙◌, subst, lt-ltb, ltb-true, ltb-false}
 use Rattle.std.proofs.lemmas.List.{length-take, take_all}
 use Rattle.equation_file.specs.declared.equation.Equation.{Equation}
-use Rattle.equation_file.specs.declared.fault.Which.TheVariants.{Bytes}
+use Rattle.equation_document.specs.declared.fault.Which.TheVariants.{Bytes}
 use Rattle.equation_file.specs.declared.refusal.FileRefusal.{FileRefusal}
 use Rattle.equation_file.specs.declared.refusal.FileRefusal.TheVariants.{Limit}
 use Rattle.equation_file.specs.File.{equation_of}

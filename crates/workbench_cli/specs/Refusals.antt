@@ -5,10 +5,10 @@
 --   line_of r == its line
 use Rattle.std.specs.Prelude.{ℕ, List, codes, ◌++◌}
 use Rattle.std.specs.Fmt.{signed_decimal}
-use Rattle.equation_file.specs.declared.fault.Reason.{Reason}
-use Rattle.equation_file.specs.declared.fault.Reason.TheVariants as reasons
-use Rattle.equation_file.specs.declared.fault.Which.{Which}
-use Rattle.equation_file.specs.declared.fault.Which.TheVariants as limits
+use Rattle.equation_document.specs.declared.fault.Reason.{Reason}
+use Rattle.equation_document.specs.declared.fault.Reason.TheVariants as reasons
+use Rattle.equation_document.specs.declared.fault.Which.{Which}
+use Rattle.equation_document.specs.declared.fault.Which.TheVariants as limits
 use Rattle.equation_file.specs.declared.refusal.FileRefusal.{FileRefusal}
 use Rattle.equation_file.specs.declared.refusal.FileRefusal.TheVariants as files
 use Rattle.workbench_cli.specs.declared.refusal.Refusal.{Refusal}

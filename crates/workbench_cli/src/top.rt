@@ -12,11 +12,12 @@ use crate::check::check;
 use crate::lines::print_refusal;
 use crate::refusal::Refusal;
 use crate::words::file_of;
+use equation_file::MOST_BYTES;
 use std::alloc::Global;
 use wb_outside::{Files, OutsideError, Sink};
 
 // One byte more than a file may have, so that a longer file is not taken for one that has as many.
-const MOST_FILE_BYTES: usize = 65_536 + 1;
+const MOST_FILE_BYTES: usize = MOST_BYTES + 1;
 
 /// How the program ends: 0 where the answer was written whole, else the number of the refusal.
 #[derive(Clone, Copy, Debug, PartialEq, Eq)]

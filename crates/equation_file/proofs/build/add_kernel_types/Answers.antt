@@ -1,6 +1,6 @@
 use Rattle.std.proofs.Common.{ap, ◌∙◌}
-use Rattle.equation_file.specs.Limits.{unknown_number}
-use Rattle.equation_file.proofs.FirstOfLemmas.{none_at}
+use Rattle.equation_document.specs.Limits.{unknown_number}
+use Rattle.equation_document.proofs.FirstOfLemmas.{none_at}
 use Rattle.equation_file.proofs.build.add_kernel_types.Goals as goal
 
 pub kernel_type-requires-clause-small : goal.kernel_type-requires-clause-small

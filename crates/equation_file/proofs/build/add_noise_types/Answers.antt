@@ -1,6 +1,6 @@
 use Rattle.std.proofs.Common.{ap, ◌∙◌}
-use Rattle.equation_file.specs.Limits.{noise_number}
-use Rattle.equation_file.proofs.FirstOfLemmas.{none_at}
+use Rattle.equation_document.specs.Limits.{noise_number}
+use Rattle.equation_document.proofs.FirstOfLemmas.{none_at}
 use Rattle.equation_file.proofs.build.add_noise_types.Goals as goal
 
 pub noise_type-requires-clause-small : goal.noise_type-requires-clause-small

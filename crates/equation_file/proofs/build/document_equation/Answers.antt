@@ -1,5 +1,5 @@
 use Rattle.std.proofs.Common.{arith}
-use Rattle.equation_file.proofs.LimitFacts.{is_within}
+use Rattle.equation_document.proofs.LimitFacts.{is_within}
 use Rattle.equation_file.proofs.build.document_equation.Goals as goal
 
 pub equation_in-requires-clause-units : goal.equation_in-requires-clause-units

@@ -1,8 +1,8 @@
 use Rattle.std.proofs.Common.{◌≤◌, length, ap, subst, ◌∙◌, arith}
-use Rattle.equation_file.specs.FirstOf.{first_of}
-use Rattle.equation_file.specs.Limits.{noise_number, unknown_number}
-use Rattle.equation_file.proofs.FirstOfLemmas.{none_index}
-use Rattle.equation_file.proofs.LimitFacts.{is_within}
+use Rattle.equation_document.specs.FirstOf.{first_of}
+use Rattle.equation_document.specs.Limits.{noise_number, unknown_number}
+use Rattle.equation_document.proofs.FirstOfLemmas.{none_index}
+use Rattle.equation_document.proofs.LimitFacts.{is_within}
 use Rattle.equation_file.proofs.build.types_of.Goals as goal
 
 pub add_noise_types-requires-clause-few : goal.add_noise_types-requires-clause-few

@@ -1,9 +1,9 @@
 use Rattle.std.proofs.Common.{◌≡◌, ◌<◌, length, ap, ◌∙◌, arith, ◌+◌}
-use Rattle.equation_file.specs.FirstOf.{first_of}
-use Rattle.equation_file.specs.Limits.{unknown_number, right_terms}
-use Rattle.equation_file.specs.Terms.{term_derivative}
-use Rattle.equation_file.proofs.FirstOfLemmas.{none_at}
-use Rattle.equation_file.proofs.LimitFacts.{is_within}
+use Rattle.equation_document.specs.FirstOf.{first_of}
+use Rattle.equation_document.specs.Limits.{unknown_number, right_terms}
+use Rattle.equation_document.specs.Terms.{term_derivative}
+use Rattle.equation_document.proofs.FirstOfLemmas.{none_at}
+use Rattle.equation_document.proofs.LimitFacts.{is_within}
 use Rattle.equation_file.proofs.UnknownSteps.{unknowns_over}
 use Rattle.equation_file.proofs.build.unknowns_of.Goals as goal
 

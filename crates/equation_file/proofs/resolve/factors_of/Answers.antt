@@ -1,7 +1,7 @@
 use Rattle.std.proofs.Common.{ap, ◌∙◌}
-use Rattle.equation_file.specs.FirstOf.{first_of}
-use Rattle.equation_file.specs.Terms.{factor_derivative}
-use Rattle.equation_file.proofs.FirstOfLemmas.{none_at}
+use Rattle.equation_document.specs.FirstOf.{first_of}
+use Rattle.equation_document.specs.Terms.{factor_derivative}
+use Rattle.equation_document.proofs.FirstOfLemmas.{none_at}
 use Rattle.equation_file.proofs.resolve.factors_of.Goals as goal
 
 pub add_factor-requires-clause-small : goal.add_factor-requires-clause-small

@@ -1,6 +1,6 @@
 use Rattle.std.proofs.Common.{ap, ◌∙◌}
-use Rattle.equation_file.specs.Terms.{term_derivative}
-use Rattle.equation_file.proofs.FirstOfLemmas.{none_at}
+use Rattle.equation_document.specs.Terms.{term_derivative}
+use Rattle.equation_document.proofs.FirstOfLemmas.{none_at}
 use Rattle.equation_file.proofs.resolve.products_of.Goals as goal
 
 pub product_of-requires-clause-small : goal.product_of-requires-clause-small

@@ -1,0 +1,11 @@
+pub mod DegreeFacts
+pub mod DocumentFacts
+pub mod DocumentRead
+pub mod Everywhere
+pub mod FirstOfLemmas
+pub mod Folds
+pub mod ItemSteps
+pub mod LeastCommon
+pub mod LimitFacts
+pub mod NameFacts
+pub mod ReadFacts

@@ -1,0 +1,20 @@
+use Rattle.std.proofs.Common.{◌≡◌, ◌+◌, refl, sym, ◌∙◌, ap, subst, Ok, Err}
+use Rattle.std.proofs.lemmas.Result.{err_from_is_err_and}
+use Rattle.toml.specs.View.{view}
+use Rattle.equation_document.specs.Reading.{parameters_from, parameter_of}
+use Rattle.equation_document.proofs.ItemSteps.{items_at, items_over, fails_too}
+use Rattle.equation_document.proofs.tables.parameters_from.Goals as goal
+
+pub returns-in_err-name : goal.returns-in_err-name
+unfolding parameters_from
+returns-in_err-name c =
+    let p = err_from_is_err_and c.from_residual.result c.from_residual.ensures.1 in
+    rw (p.1, p.2) (fails_too _ _ _ c.in_err-name.ensures (λ f e. sym c.loop-i.invariant ∙ ap (parameters_from (c.loop-i.i + 1) c.loop-i.seen) (items_at c.args.values.now c.loop-i.i c.index-values-i.result c.loop-i-test.true c.index-values-i.is) ∙ rw (subst (λ xs. parameter_of (c.loop-i.i + 1) xs (view c.index-values-i.result) ≡ Err f) c.as_slice.ensures e) refl))
+
+pub loop-i-preserved : goal.loop-i-preserved
+unfolding parameters_from
+loop-i-preserved c = sym (ap (parameters_from (c.loop-i.i + 1) c.loop-i.seen) (items_at c.args.values.now c.loop-i.i c.index-values-i.result c.loop-i-test.true c.index-values-i.is) ∙ rw (subst (λ xs. parameter_of (c.loop-i.i + 1) xs (view c.index-values-i.result) ≡ Ok c.in_ok-name.name) c.as_slice.ensures c.in_ok-name.ensures, c.in_ok-push.ensures.ok) refl) ∙ c.loop-i.invariant
+
+pub returns : goal.returns
+unfolding parameters_from
+returns c = sym c.loop-i.invariant ∙ ap (parameters_from (c.loop-i.i + 1) c.loop-i.seen) (items_over c.args.values.now c.loop-i.i c.loop-i-test.false)

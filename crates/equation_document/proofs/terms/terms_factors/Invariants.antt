@@ -1,0 +1,8 @@
+use Rattle.std.proofs.Common.{◌≡◌, drop}
+use Rattle.equation_document.specs.FirstOf.{first_of}
+use Rattle.equation_document.specs.Terms.{term_factors}
+use Rattle.equation_document.proofs.terms.terms_factors.Given as goal
+
+-- the first of all is the first of those that are left
+abbrev pub invariant-loop-term : goal.invariant-loop-term
+invariant-loop-term l = first_of term_factors l.terms ≡ first_of term_factors (drop l.term-index l.terms)

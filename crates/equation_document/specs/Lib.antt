@@ -1,0 +1,11 @@
+pub mod Bounds
+pub mod Counted
+pub mod DegreeEntry
+pub mod Denominator
+pub mod File
+pub mod FirstOf
+pub mod Gives
+pub mod Limits
+pub mod Names
+pub mod Reading
+pub mod Terms

@@ -1,0 +1,253 @@
+-- What a table of a file means, key by key, in the order in which faults are sought: the first fault, or what the table holds. Items count from 1.
+--   r >>= f == what f makes of what r gives; the fault of r where it has one
+--   required, of_kind, of_value e x == x; `missing`, `kind` or `value` at the entry e where it is not there
+--   is_key set key == the key may stand in such a table
+--   keys_of e set ms == `key` at e where another key stands there
+--   version_of ms == the version, which is 1
+--   numbers_from at found ds == whole numbers of at least 1, after those found
+--   list_of s key ms == the list at a key, which is there and not empty
+--   new_name e seen text == a name that was not seen before
+--   parameters_from at seen ds == names, after those seen
+--   noise_of at seen d == a noise: its keys, its name, its degree, its group
+--   noises_from at seen found ds == noises, after those found, with all names seen
+--   unknown_of at seen d == an unknown: its keys, its name, its degree above 0 and its regularity, both without k part
+--   unknowns_from at seen found ds == unknowns, after those found, with all names seen
+--   right_of names dims at d == the terms of a right side, whose names are known, with at most one noise in each
+--   rights_from names dims at found ds == right sides, after those found
+--   document_of ms == all that the table of a file holds
+use Rattle.std.specs.Prelude.{ℕ, ◌+◌, ℤ, pos, negsuc, List, [], ◌∷◌, ◌++◌, length, codes, Bool, true, false, not, ◌||◌, nat_lt, if◌then◌else◌, Option, Some, None, Result, Ok, Err}
+use Rattle.std.specs.Ordering.{int_eq}
+use Rattle.std.specs.Str.{bytes_eq}
+use Rattle.toml.specs.Data.{Data, Items, no_items, item, Members, no_members, member, get_member, as_array, as_integer, as_str, as_table}
+use Rattle.degree_numbers.specs.DegreeText.{Written, written_of}
+use Rattle.degree_numbers.specs.Name.{is_name}
+use Rattle.right_side_text.specs.Grammar.{right_side}
+use Rattle.right_side_text.specs.declared.written.WrittenTerm.{WrittenTerm}
+use Rattle.equation_document.specs.declared.document.Document.{Document}
+use Rattle.equation_document.specs.declared.document.NoiseEntry.{NoiseEntry}
+use Rattle.equation_document.specs.declared.document.UnknownEntry.{UnknownEntry}
+use Rattle.equation_document.specs.declared.fault.Section.{Section}
+use Rattle.equation_document.specs.declared.fault.Section.TheVariants.{Version, Scaling, Parameters, Noise, Unknown}
+use Rattle.equation_document.specs.declared.fault.Field.TheVariants as fields
+use Rattle.equation_document.specs.declared.fault.Entry.{Entry}
+use Rattle.equation_document.specs.declared.fault.Entry.TheVariants.{File, Whole, Item, Part}
+use Rattle.equation_document.specs.declared.fault.Reason.TheVariants as reasons
+use Rattle.equation_document.specs.declared.fault.Fault.{Fault}
+use Rattle.equation_document.specs.declared.fault.Fault.TheVariants.{Malformed}
+use Rattle.equation_document.specs.declared.names.Names.{Names}
+use Rattle.equation_document.specs.declared.tables.KeySet.{KeySet}
+use Rattle.equation_document.specs.declared.tables.KeySet.TheVariants as keys
+use Rattle.equation_document.specs.DegreeEntry.{is_positive, is_standard}
+use Rattle.equation_document.specs.Names.{stands_in, are_known, have_one_noise}
+
+infixl 10 ◌>>=◌
+abbrev pub ◌>>=◌ : {A B : Type 0} → Result A Fault → (A → Result B Fault) → Result B Fault
+(Ok x) >>= f = f x
+(Err e) >>= f = Err e
+
+abbrev pub required : {A : Type 0} → Entry → Option A → Result A Fault
+required e None = Err (Malformed e reasons.Missing)
+required e (Some x) = Ok x
+
+abbrev pub of_kind : {A : Type 0} → Entry → Option A → Result A Fault
+of_kind e None = Err (Malformed e reasons.Kind)
+of_kind e (Some x) = Ok x
+
+abbrev pub of_value : {A : Type 0} → Entry → Option A → Result A Fault
+of_value e None = Err (Malformed e reasons.Value)
+of_value e (Some x) = Ok x
+
+abbrev pub is_key : KeySet → List ℕ → Bool
+is_key keys.Top key = (((bytes_eq key (codes "noise") || bytes_eq key (codes "parameters")) || bytes_eq key (codes "scaling")) || bytes_eq key (codes "unknown")) || bytes_eq key (codes "version")
+is_key keys.OfNoise key = (bytes_eq key (codes "degree") || bytes_eq key (codes "group")) || bytes_eq key (codes "name")
+is_key keys.OfUnknown key = ((bytes_eq key (codes "degree") || bytes_eq key (codes "name")) || bytes_eq key (codes "regularity")) || bytes_eq key (codes "right")
+
+abbrev pub has_other_key : KeySet → Members → Bool
+has_other_key set no_members = false
+has_other_key set (member key d ms) = not (is_key set key) || has_other_key set ms
+
+abbrev pub keys_of : Entry → KeySet → Members → Result Bool Fault
+keys_of e set ms = if has_other_key set ms then Err (Malformed e reasons.Key) else Ok true
+
+unfoldable pub version_of : Members → Result ℤ Fault
+version_of ms = do
+  d ← required (Whole Version) (get_member (codes "version") ms)
+  n ← of_kind (Whole Version) (as_integer d)
+  if int_eq n (pos 1) then Ok n else Err (Malformed (Whole Version) reasons.Value)
+
+-- a whole number that is at least 1
+abbrev pub whole : ℤ → Option ℕ
+whole (pos n) = if nat_lt 0 n then Some n else None
+whole (negsuc n) = None
+
+unfoldable pub number_of : ℕ → Data → Result ℕ Fault
+number_of at d = do
+  n ← of_kind (Item Scaling at) (as_integer d)
+  of_value (Item Scaling at) (whole n)
+
+unfoldable pub numbers_from : ℕ → List ℕ → Items → Result (List ℕ) Fault
+numbers_from at found no_items = Ok found
+numbers_from at found (item d ds) = do
+  n ← number_of at d
+  numbers_from (at + 1) (found ++ n ∷ []) ds
+
+-- a list that is not empty
+abbrev pub some_items : Section → Items → Result Items Fault
+some_items s no_items = Err (Malformed (Whole s) reasons.Value)
+some_items s (item d ds) = Ok (item d ds)
+
+unfoldable pub list_of : Section → List ℕ → Members → Result Items Fault
+list_of s key ms = do
+  d ← required (Whole s) (get_member key ms)
+  items ← of_kind (Whole s) (as_array d)
+  some_items s items
+
+abbrev pub of_name : Entry → List ℕ → Result (List ℕ) Fault
+of_name e text = if is_name text then Ok text else Err (Malformed e reasons.Name)
+
+unfoldable pub new_name : Entry → List (List ℕ) → List ℕ → Result (List ℕ) Fault
+new_name e seen text = do
+  name ← of_name e text
+  if stands_in seen name then Err (Malformed e reasons.Repeated) else Ok name
+
+unfoldable pub parameter_of : ℕ → List (List ℕ) → Data → Result (List ℕ) Fault
+parameter_of at seen d = do
+  text ← of_kind (Item Parameters at) (as_str d)
+  new_name (Item Parameters at) seen text
+
+unfoldable pub parameters_from : ℕ → List (List ℕ) → Items → Result (List (List ℕ)) Fault
+parameters_from at seen no_items = Ok seen
+parameters_from at seen (item d ds) = do
+  name ← parameter_of at seen d
+  parameters_from (at + 1) (seen ++ name ∷ []) ds
+
+-- the parameters, where they are written
+unfoldable pub parameters_of : Option Data → Result (List (List ℕ)) Fault
+parameters_of None = Ok []
+parameters_of (Some d) = do
+  items ← of_kind (Whole Parameters) (as_array d)
+  parameters_from 1 [] items
+
+-- the table of an item, which has no other keys
+unfoldable pub table_of : Section → KeySet → ℕ → Data → Result Members Fault
+table_of s set at d = do
+  ms ← of_kind (Item s at) (as_table d)
+  known ← keys_of (Item s at) set ms
+  Ok ms
+
+-- the text at a key of an item
+unfoldable pub text_of : Entry → List ℕ → Members → Result (List ℕ) Fault
+text_of e key ms = do
+  d ← required e (get_member key ms)
+  of_kind e (as_str d)
+
+unfoldable pub name_of : Section → ℕ → List (List ℕ) → Members → Result (List ℕ) Fault
+name_of s at seen ms = do
+  text ← text_of (Part s at fields.Name) (codes "name") ms
+  new_name (Part s at fields.Name) seen text
+
+abbrev pub of_degree : Entry → Option Written → Result Written Fault
+of_degree e None = Err (Malformed e reasons.Degree)
+of_degree e (Some w) = Ok w
+
+-- the degree at a key of an item
+unfoldable pub degree_of : Entry → List ℕ → Members → Result Written Fault
+degree_of e key ms = do
+  text ← text_of e key ms
+  of_degree e (written_of text)
+
+-- the group of a noise, which is named as the noise where it is not written
+unfoldable pub group_of : Entry → List ℕ → Option Data → Result (List ℕ) Fault
+group_of e name None = Ok name
+group_of e name (Some d) = do
+  text ← of_kind e (as_str d)
+  of_name e text
+
+unfoldable pub noise_of : ℕ → List (List ℕ) → Data → Result NoiseEntry Fault
+noise_of at seen d = do
+  ms ← table_of Noise keys.OfNoise at d
+  name ← name_of Noise at seen ms
+  degree ← degree_of (Part Noise at fields.Degree) (codes "degree") ms
+  group ← group_of (Part Noise at fields.Group) name (get_member (codes "group") ms)
+  Ok (record { name = name; degree = degree; group = group })
+
+unfoldable pub noises_from : ℕ → List (List ℕ) → List NoiseEntry → Items → Result (List (List ℕ) × List NoiseEntry) Fault
+noises_from at seen found no_items = Ok (seen, found)
+noises_from at seen found (item d ds) = do
+  noise ← noise_of at seen d
+  noises_from (at + 1) (seen ++ noise.name ∷ []) (found ++ noise ∷ []) ds
+
+-- the noises, where there are any
+unfoldable pub noises_of : List (List ℕ) → Option Data → Result (List (List ℕ) × List NoiseEntry) Fault
+noises_of seen None = Ok (seen, [])
+noises_of seen (Some d) = do
+  items ← of_kind (Whole Noise) (as_array d)
+  noises_from 1 seen [] items
+
+-- the degree of an unknown
+unfoldable pub positive_of : Entry → List ℕ → Members → Result Written Fault
+positive_of e key ms = do
+  degree ← degree_of e key ms
+  if is_positive degree then Ok degree else Err (Malformed e reasons.Value)
+
+-- the regularity of an unknown
+unfoldable pub standard_of : Entry → List ℕ → Members → Result Written Fault
+standard_of e key ms = do
+  degree ← degree_of e key ms
+  if is_standard degree then Ok degree else Err (Malformed e reasons.Value)
+
+unfoldable pub unknown_of : ℕ → List (List ℕ) → Data → Result UnknownEntry Fault
+unknown_of at seen d = do
+  ms ← table_of Unknown keys.OfUnknown at d
+  name ← name_of Unknown at seen ms
+  degree ← positive_of (Part Unknown at fields.Degree) (codes "degree") ms
+  regularity ← standard_of (Part Unknown at fields.Regularity) (codes "regularity") ms
+  Ok (record { name = name; degree = degree; regularity = regularity })
+
+unfoldable pub unknowns_from : ℕ → List (List ℕ) → List UnknownEntry → Items → Result (List (List ℕ) × List UnknownEntry) Fault
+unknowns_from at seen found no_items = Ok (seen, found)
+unknowns_from at seen found (item d ds) = do
+  unknown ← unknown_of at seen d
+  unknowns_from (at + 1) (seen ++ unknown.name ∷ []) (found ++ unknown ∷ []) ds
+
+-- the terms, where their names are known and none has two noises
+abbrev pub known_terms : Entry → Names → List WrittenTerm → Result (List WrittenTerm) Fault
+known_terms e names ts =
+    if are_known names ts then (if have_one_noise names ts then Ok ts else Err (Malformed e reasons.Noise)) else Err (Malformed e reasons.Polynomial)
+
+abbrev pub terms_of : Entry → Names → Option (List WrittenTerm) → Result (List WrittenTerm) Fault
+terms_of e names None = Err (Malformed e reasons.Polynomial)
+terms_of e names (Some ts) = known_terms e names ts
+
+unfoldable pub right_of : Names → ℕ → ℕ → Data → Result (List WrittenTerm) Fault
+right_of names dims at d = do
+  ms ← of_kind (Item Unknown at) (as_table d)
+  text ← text_of (Part Unknown at fields.Right) (codes "right") ms
+  terms_of (Part Unknown at fields.Right) names (right_side dims text)
+
+unfoldable pub rights_from : Names → ℕ → ℕ → List (List WrittenTerm) → Items → Result (List (List WrittenTerm)) Fault
+rights_from names dims at found no_items = Ok found
+rights_from names dims at found (item d ds) = do
+  terms ← right_of names dims at d
+  rights_from names dims (at + 1) (found ++ terms ∷ []) ds
+
+abbrev pub names_of : List (List ℕ) → ℕ → ℕ → Names
+names_of list first_noise first_unknown = record { list = list; first_noise = first_noise; first_unknown = first_unknown }
+
+-- what the numbers and names of a file are followed by: its unknowns with their right sides
+unfoldable pub unknown_part : List ℕ → ℕ → (List (List ℕ) × List NoiseEntry) → Items → Result Document Fault
+unknown_part scaling first_noise noises items = do
+  unknowns ← unknowns_from 1 noises.0 [] items
+  rights ← rights_from (names_of unknowns.0 first_noise (length noises.0)) (length scaling) 1 [] items
+  Ok (record { scaling = scaling; names = names_of unknowns.0 first_noise (length noises.0); noises = noises.1; unknowns = unknowns.1; rights = rights })
+
+unfoldable pub document_of : Members → Result Document Fault
+document_of ms = do
+  known ← keys_of File keys.Top ms
+  version ← version_of ms
+  numbers ← list_of Scaling (codes "scaling") ms
+  scaling ← numbers_from 1 [] numbers
+  parameters ← parameters_of (get_member (codes "parameters") ms)
+  noises ← noises_of parameters (get_member (codes "noise") ms)
+  items ← list_of Unknown (codes "unknown") ms
+  unknown_part scaling (length parameters) noises items

@@ -1,0 +1,21 @@
+//! What an equation file holds: from the bytes of a file to its document, or to its first fault.
+#![tactic(auto)]
+
+mod bounds;
+mod degree_entry;
+mod denominator;
+mod document;
+mod fault;
+mod limits;
+mod names;
+mod read;
+mod tables;
+mod terms;
+
+pub use bounds::{LARGEST_DENOMINATOR, MOST_BYTES, MOST_NAMES};
+pub use degree_entry::DegreeEntry;
+pub use document::{Document, NoiseEntry, UnknownEntry};
+pub use fault::{Entry, Fault, Field, ReadError, Reason, Section, Which};
+pub use limits::{denominator_of, units_of};
+pub use names::{Names, place_of, stands_in};
+pub use read::read_document;

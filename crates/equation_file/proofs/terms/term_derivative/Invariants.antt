@@ -1,8 +1,0 @@
-use Rattle.std.proofs.Common.{◌≡◌, drop}
-use Rattle.equation_file.specs.FirstOf.{first_of}
-use Rattle.equation_file.specs.Terms.{factor_derivative}
-use Rattle.equation_file.proofs.terms.term_derivative.Given as goal
-
--- the first of all is the first of those that are left
-abbrev pub invariant-loop-factor : goal.invariant-loop-factor
-invariant-loop-factor l = first_of factor_derivative l.factor-items ≡ first_of factor_derivative (drop l.factor-index l.factor-items)

@@ -1,8 +1,0 @@
-use Rattle.std.proofs.Common.{◌≡◌, drop}
-use Rattle.equation_file.specs.FirstOf.{first_of}
-use Rattle.equation_file.specs.Terms.{term_derivative}
-use Rattle.equation_file.proofs.terms.terms_derivative.Given as goal
-
--- the first of all is the first of those that are left
-abbrev pub invariant-loop-term : goal.invariant-loop-term
-invariant-loop-term l = first_of term_derivative l.terms ≡ first_of term_derivative (drop l.term-index l.terms)
