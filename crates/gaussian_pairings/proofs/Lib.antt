@@ -1,1 +1,4 @@
-pub mod Noises
+pub mod ListingSteps
+pub mod NoiseCounts
+pub mod PairingLaws
+pub mod PairingOrder

@@ -1,7 +1,7 @@
 use Rattle.std.proofs.Common.{arith}
 use Rattle.tree_pool.specs.Content.{tree_over}
 use Rattle.tree_pool.proofs.Walks.{no_edge, below_at}
-use Rattle.gaussian_pairings.proofs.Noises.{noises_whole, noises_cut, noises_within}
+use Rattle.gaussian_pairings.proofs.NoiseCounts.{noises_whole, noises_cut, noises_within}
 use Rattle.gaussian_pairings.proofs.vanishing.+noises_in.Goals as goal
 
 pub loop-e-init : goal.loop-e-init

@@ -1,7 +1,7 @@
 use Rattle.std.proofs.Common.{arith, ◌==◌, ◌%◌, length, ◌≡◌, true, false, refl}
 use Rattle.tree_pool.specs.Content.{tree_at}
 use Rattle.gaussian_pairings.specs.Vanishing.{noises_in}
-use Rattle.gaussian_pairings.proofs.Noises.{below_found, root_decides, groups_decide}
+use Rattle.gaussian_pairings.proofs.NoiseCounts.{below_found, root_decides, groups_decide}
 use Rattle.gaussian_pairings.proofs.vanishing.vanishes.Goals as goal
 
 pub returns-then-not-is_zero : goal.returns-then-not-is_zero

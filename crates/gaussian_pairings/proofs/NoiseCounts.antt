@@ -1,13 +1,14 @@
 -- The noise edges of a tree by the edges of its root.
-use Rattle.std.proofs.Common.{◌≡◌, ℕ, suc, zero, ◌+◌, ◌<◌, ◌≤◌, ◌==◌, ◌&&◌, ◌||◌, Bool, true, false, cond, ◌%◌, List, [], ◌∷◌, ◌++◌, map, drop, length, get_or, refl, sym, ap, ◌∙◌, arith, Ordering, nat_cmp}
+use Rattle.std.proofs.Common.{◌≡◌, ℕ, suc, zero, ◌+◌, ◌<◌, ◌≤◌, ◌==◌, ◌&&◌, ◌||◌, Bool, true, false, cond, ◌%◌, List, [], ◌∷◌, ◌++◌, map, drop, length, get_or, refl, sym, ap, ◌∙◌, arith, length-append, Ordering, nat_cmp}
 use Rattle.std.proofs.lemmas.Bool.Decides.{nat_tests}
+use Rattle.std.proofs.lemmas.Option.{slice_get-get_or}
 use Rattle.degree_numbers.specs.declared.Types.{Types}
 use Rattle.degree_numbers.specs.Multi.{is_zero}
 use Rattle.degree_numbers.specs.Types.{group_of}
 use Rattle.ordered_lists.specs.Subs.{count_of}
 use Rattle.plain_trees.specs.Plain.{Plain, bare, graft, edge_count_of}
 use Rattle.plain_trees.specs.View.{Labelled, grafted}
-use Rattle.tree_pool.specs.Content.{Content, tree_at, Holds, edge_over, tree_over}
+use Rattle.tree_pool.specs.Content.{Content, IsPooled, tree_at, Holds, edge_over, tree_over}
 use Rattle.tree_pool.specs.declared.EdgeTo.{EdgeTo}
 use Rattle.tree_pool.proofs.Walks.{at_holds, root_at, tree_cut, count_most}
 use Rattle.gaussian_pairings.specs.Vanishing.{is_noise_type, noise_here, noise_groups, noises_in, some_below, vanishes}
@@ -72,3 +73,18 @@ root_decides ty c i n es h e = rw (root_at c i n es h, e) refl
 pub groups_decide : (ty : Types) (c : Content) (i : ℕ) (n : List ℕ) (es : List EdgeTo) (b : Bool) → Holds c i (tree_over c.trees n es) → is_zero n ≡ true →
     some_below (length ty.groups) (λ g. noises_in ty (tree_at c i) g % 2 == 1) ≡ b → b ≡ vanishes ty (tree_at c i)
 groups_decide ty c i n es b h e k = rw (root_at c i n es h, e, k) refl
+
+-- the number of noise edges
+one_group : (b : Bool) (g : ℕ) → length (cond b (g ∷ []) []) ≤ 1
+one_group true g = omega arith
+one_group false g = omega arith
+
+groups_most : (ty : Types) (t : Plain) → length (noise_groups ty t) ≤ edge_count_of t
+groups_most ty (bare n) = omega arith
+groups_most ty (graft k p c t) =
+    omega (arith, length-append (cond (is_noise_type ty k) (group_of ty k ∷ []) []) (noise_groups ty c ++ noise_groups ty t), length-append (noise_groups ty c) (noise_groups ty t), one_group (is_noise_type ty k) (group_of ty k), groups_most ty c, groups_most ty t)
+
+pub groups_within : (ty : Types) (c : Content) (i : ℕ) → IsPooled c → i < length c.trees → length (noise_groups ty (tree_at c i)) ≤ 24
+groups_within ty c i pool lt =
+    let there = slice_get-get_or c.trees i (bare []) lt in
+    omega (arith, groups_most ty (tree_at c i), (pool.kept i (tree_at c i) there).small.edges)
