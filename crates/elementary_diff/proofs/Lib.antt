@@ -1,2 +1,4 @@
 pub mod SymmetryLaws
 pub mod Repeats
+pub mod RootEdges
+pub mod Drawings

@@ -6,7 +6,7 @@ ghost use Rattle.multiplicities.specs.Factorial.{factorial};
 ghost use Rattle.ordered_lists.specs.Subs.{count_of};
 ghost use Rattle.plain_trees.specs.Plain.{Plain};
 ghost use Rattle.plain_trees.specs.Canon.{planted_order};
-ghost use Rattle.tree_pool.specs.Content.{tree_at, AreBelow};
+ghost use Rattle.tree_pool.specs.Content.{tree_at};
 ghost use Rattle.elementary_diff.specs.Symmetry.{root_edges, symmetry_of};
 
 use tree_pool::{EdgeTo, Pool, TreeId};

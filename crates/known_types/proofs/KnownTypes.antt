@@ -1,11 +1,11 @@
 -- They are types of accepted files.
-use Rattle.std.proofs.Common.{◌≡◌, ℕ, pos, neg_ℤ, List, [], ◌∷◌, refl, sym, arith, inr}
+use Rattle.std.proofs.Common.{◌≡◌, ℕ, pos, neg_ℤ, List, [], ◌∷◌, refl, sym, arith, inl, inr}
 use Rattle.std.proofs.lemmas.Int.{ints}
 use Rattle.std.proofs.lemmas.Nat.Gcd.{IsGcd-from_mod, IsGcd-from_zero}
 use Rattle.std.specs.Int.{IsGcd}
-use Rattle.degree_numbers.specs.declared.Kind.TheVariants.{Kernel}
-use Rattle.degree_numbers.specs.Types.{AreTypes, IsWritable, IsKernelEntry, AreNames}
-use Rattle.known_types.specs.Known.{kpz, phi43}
+use Rattle.degree_numbers.specs.declared.Kind.TheVariants.{Noise, Kernel}
+use Rattle.degree_numbers.specs.Types.{AreTypes, IsWritable, IsNoiseEntry, IsKernelEntry, AreNames}
+use Rattle.known_types.specs.Known.{kpz, phi43, apart, together}
 
 -- odd halves, and whole numbers
 three_is_lowest : IsGcd 3 2 1
@@ -80,4 +80,52 @@ phi43_types =
       names = names;
       groups = groups;
       numbered = inr (refl, refl);
+    }
+
+-- two noises
+abbrev eta : List ℕ
+eta = 101 ∷ 116 ∷ 97 ∷ []
+
+xi_is_not_eta : xi ≡ eta → ⊥
+xi_is_not_eta h = absurd cc
+
+u_is_not_eta : u ≡ eta → ⊥
+u_is_not_eta h = absurd cc
+
+noise_entry : (name : List ℕ) (group : ℕ) → IsNoiseEntry 2 record { name = name; kind = Noise; degree = record { a = neg_ℤ (pos 3); b = neg_ℤ (pos 2) }; group = group }
+noise_entry name group = record { kind = refl; a = kpz_a; b = noise_b }
+
+three_names : AreNames ((120 ∷ 105 ∷ []) ∷ (101 ∷ 116 ∷ 97 ∷ []) ∷ (117 ∷ []) ∷ [])
+three_names = record { are_names = (refl, (refl, (refl, tt))); different = (((λ h. xi_is_not_eta (sym h)), ((λ h. different (sym h)), tt)), ((u_is_not_eta, tt), (tt, tt))) }
+
+pub apart_types : AreTypes apart
+apart_types =
+    record {
+      scaling = record { some = omega arith; most = omega arith; entries = refl; within = ((omega arith, omega arith), ((omega arith, omega arith), tt)); rest = (refl, (refl, (refl, tt))) };
+      den_above = omega (arith, ints);
+      den_most = omega (arith, ints);
+      noises_most = omega arith;
+      kernels_some = omega arith;
+      kernels_most = omega arith;
+      of_noises = (noise_entry xi 0, (noise_entry eta 1, tt));
+      of_kernels = (kernel_entry, tt);
+      names = three_names;
+      groups = record { are_names = (refl, (refl, tt)); different = (((λ h. xi_is_not_eta (sym h)), tt), (tt, tt)) };
+      numbered = inr (refl, inr (refl, refl));
+    }
+
+pub together_types : AreTypes together
+together_types =
+    record {
+      scaling = record { some = omega arith; most = omega arith; entries = refl; within = ((omega arith, omega arith), ((omega arith, omega arith), tt)); rest = (refl, (refl, (refl, tt))) };
+      den_above = omega (arith, ints);
+      den_most = omega (arith, ints);
+      noises_most = omega arith;
+      kernels_some = omega arith;
+      kernels_most = omega arith;
+      of_noises = (noise_entry xi 0, (noise_entry eta 0, tt));
+      of_kernels = (kernel_entry, tt);
+      names = three_names;
+      groups = record { are_names = (refl, tt); different = (tt, tt) };
+      numbered = inr (refl, inl (omega arith, refl));
     }

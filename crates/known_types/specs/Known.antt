@@ -2,6 +2,8 @@
 --   one_noise dims scaling degree == a noise `xi` of this degree and a kernel `u` of degree 2, in halves
 --   kpz == the types of the KPZ equation
 --   phi43 == the types of the dynamic Phi^4 model in three dimensions
+--   two_noises group groups == noises `xi` and `eta`, in the first and in this noise group, and a kernel `u`, with the degrees and the scaling of the KPZ equation
+--   apart, together == each noise in a group of its own, and both in the group `g`
 use Rattle.std.specs.Prelude.{ℕ, pos, neg_ℤ, List, [], ◌∷◌}
 use Rattle.degree_numbers.specs.declared.Degree.{Degree}
 use Rattle.degree_numbers.specs.declared.Kind.TheVariants.{Noise, Kernel}
@@ -22,3 +24,23 @@ kpz = one_noise 2 (2 ∷ 1 ∷ 0 ∷ 0 ∷ 0 ∷ []) record { a = neg_ℤ (pos 3
 
 abbrev pub phi43 : Types
 phi43 = one_noise 4 (2 ∷ 1 ∷ 1 ∷ 1 ∷ 0 ∷ []) record { a = neg_ℤ (pos 5); b = neg_ℤ (pos 2) }
+
+abbrev pub two_noises : ℕ → List (List ℕ) → Types
+two_noises group groups =
+    record {
+      dims = 2;
+      scaling = 2 ∷ 1 ∷ 0 ∷ 0 ∷ 0 ∷ [];
+      units = record { den = pos 2 };
+      list =
+        record { name = 120 ∷ 105 ∷ []; kind = Noise; degree = record { a = neg_ℤ (pos 3); b = neg_ℤ (pos 2) }; group = 0 }
+        ∷ record { name = 101 ∷ 116 ∷ 97 ∷ []; kind = Noise; degree = record { a = neg_ℤ (pos 3); b = neg_ℤ (pos 2) }; group = group }
+        ∷ record { name = 117 ∷ []; kind = Kernel; degree = record { a = pos 4; b = pos 0 }; group = 0 }
+        ∷ [];
+      groups = groups;
+    }
+
+abbrev pub apart : Types
+apart = two_noises 1 ((120 ∷ 105 ∷ []) ∷ (101 ∷ 116 ∷ 97 ∷ []) ∷ [])
+
+abbrev pub together : Types
+together = two_noises 0 ((103 ∷ []) ∷ [])

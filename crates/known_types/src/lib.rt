@@ -3,7 +3,7 @@
 
 ghost use Rattle.std.specs.Prelude.{IfOk, ◌≡◌, ◌∷◌, []};
 ghost use Rattle.degree_numbers.specs.Types.{AreTypes};
-ghost use Rattle.known_types.specs.Known.{one_noise, kpz, phi43};
+ghost use Rattle.known_types.specs.Known.{one_noise, kpz, phi43, two_noises, apart, together};
 
 use degree_numbers::{Degree, Kind, Name, TypeEntry, Types, Units};
 use sqlite_items::Items;
@@ -69,4 +69,71 @@ pub fn phi43_types(alloc: Global) -> Result<Types, AllocError>
     ensures types { IfOk result AreTypes }
 {
     one_noise(alloc, 4, [2, 1, 1, 1, 0], Degree { a: -5, b: -2 })
+}
+
+fn second_noise() -> Name
+    ensures { result ≡ 101 ∷ 116 ∷ 97 ∷ [] }
+{
+    Name::new(b"eta").unwrap()
+}
+
+fn shared_group() -> Name
+    ensures { result ≡ 103 ∷ [] }
+{
+    Name::new(b"g").unwrap()
+}
+
+fn two_noises(alloc: Global, group: u8, groups: Items<Name>) -> Result<Types, AllocError>
+    ensures { IfOk result (λ ty. ty ≡ two_noises group groups) }
+{
+    let noise_degree = Degree { a: -3, b: -2 };
+    let mut list = Items::new(alloc);
+    list.push(TypeEntry {
+        name: noise(),
+        kind: Kind::Noise,
+        degree: noise_degree,
+        group: 0,
+    })?;
+    list.push(TypeEntry {
+        name: second_noise(),
+        kind: Kind::Noise,
+        degree: noise_degree,
+        group,
+    })?;
+    list.push(TypeEntry {
+        name: unknown(),
+        kind: Kind::Kernel,
+        degree: Degree { a: 4, b: 0 },
+        group: 0,
+    })?;
+    Ok(Types {
+        dims: 2,
+        scaling: [2, 1, 0, 0, 0],
+        units: Units { den: 2 },
+        list,
+        groups,
+    })
+}
+
+/// Types with two noises `xi` and `eta` that are not correlated: each is in a noise group of its own. The rest is as in the KPZ equation.
+#[tactic(auto, using(crate::proofs::KnownTypes::apart_types))]
+pub fn apart_types(alloc: Global) -> Result<Types, AllocError>
+    ensures value { IfOk result (λ ty. ty ≡ apart) }
+    ensures types { IfOk result AreTypes }
+{
+    let mut groups = Items::new(alloc);
+    groups.push(noise())?;
+    groups.push(second_noise())?;
+    two_noises(alloc, 1, groups)
+}
+
+/// The same with both noises in one noise group `g`.
+#[tactic(auto, using(crate::proofs::KnownTypes::together_types))]
+pub fn together_types(alloc: Global) -> Result<Types, AllocError>
+    ensures value { IfOk result (λ ty. ty ≡ together) }
+    ensures types { IfOk result AreTypes }
+{
+    let mut groups = Items::new(alloc);
+    groups.push(shared_group())?;
+    two_noises(alloc, 0, groups)
 }
