@@ -1,19 +1,18 @@
 -- The drawings of a canonical tree as ordered trees, and how many there are.
-use Rattle.std.proofs.Common.{◌≡◌, ℕ, zero, suc, ◌+◌, ◌*◌, ◌<◌, ◌≤◌, List, [], ◌∷◌, ◌++◌, length, map, flat_map, refl, sym, ap, subst, ◌∙◌, inl, inr, arith}
+use Rattle.std.proofs.Common.{◌≡◌, ℕ, zero, suc, ◌*◌, ◌<◌, List, [], ◌∷◌, length, map, flat_map, refl, sym, ap, subst, ◌∙◌, inl, inr, arith}
 use Rattle.std.proofs.lemmas.List.{length-map}
 use Rattle.exact_sums.specs.Sums.{total}
 use Rattle.exact_sums.proofs.SumLaws.{total-scale}
 use Rattle.multiplicities.specs.Distinct.{distinct_by, AreDistinct}
 use Rattle.multiplicities.specs.Factorial.{factorial}
 use Rattle.multiplicities.proofs.DistinctLists.{distinct_map, distinct_flat_map, length-flat_map, from_distinct, in_distinct, distinct_distinct, distinct_length}
-use Rattle.multiplicities.proofs.Factorials.{factorial-suc}
 use Rattle.multiplicities.proofs.Grouping.{total_multiplicities}
 use Rattle.ordered_lists.specs.Members.{IsIn}
 use Rattle.ordered_lists.specs.Subs.{count_of}
 use Rattle.ordered_lists.proofs.Members.{in_map, from_map, in_flat_map, from_flat_map}
 use Rattle.plain_trees.specs.Plain.{Plain, bare, graft, edge_count_of}
 use Rattle.plain_trees.specs.Canon.{Planted, planted_order, with_edge, canon, IsCanonical}
-use Rattle.plain_trees.proofs.CanonLaws.{planted_total, planted_exact, canon_canonical}
+use Rattle.plain_trees.proofs.CanonLaws.{planted_total, planted_exact}
 use Rattle.elementary_diff.specs.Symmetry.{planted, root_edges, symmetry_of}
 use Rattle.elementary_diff.specs.Orders.{factorials_above, node_factorials, AreDrawings}
 use Rattle.elementary_diff.proofs.RootEdges.{without, with-without, without-with, in-with, without-canonical, child-canonical, length-without, edge_count-without, factorials-without, symmetry-without}
@@ -112,7 +111,7 @@ drawings_distinct (suc n) (graft l q d u) h =
     distinct_flat_map (first_drawn (drawings_by n) t) first_edge (distinct_by planted_order (root_edges t))
     (λ e k. distinct_grafts e (drawings_by n e.child) (drawings_by n (without e t)) (drawings_distinct n e.child (child-canonical e t h (there e k))) (drawings_distinct n (without e t) (without-canonical e t h)))
     (λ e s k m. let g = from_grafts e (drawings_by n e.child) (drawings_by n (without e t)) s m in
-        ap first_edge (sym g.is) ∙ ap (λ (c : Plain). planted e.kind e.p c) (drawing_is n e.child g.child (child-canonical e t h (there e k)) g.child_in))
+    ap first_edge (sym g.is) ∙ ap (λ (c : Plain). planted e.kind e.p c) (drawing_is n e.child g.child (child-canonical e t h (there e k)) g.child_in))
     (distinct_distinct planted_order planted_total planted_exact (root_edges t))
 
 -- how many there are
@@ -151,12 +150,12 @@ ordering (suc n) (graft l q d u) h =
     let K = factorial (length (root_edges u)) * factorials_above t in
     let term : (e : Planted) → IsIn e ds → symmetry_of t * length (first_drawn (drawings_by n) t e) ≡ count_of planted_order e es * K =
     λ e k.
-        let there = from_distinct planted_order planted_total planted_exact e es k in
-        let fewer = edge_count-without e t there in
-        let many : length (root_edges (without e t)) ≡ length (root_edges u) = omega (arith, length-without e t there) in
-        ap (λ (i : ℕ). symmetry_of t * i) (length-grafts e (drawings_by n e.child) (drawings_by n (without e t)))
-        ∙ product_step (symmetry_of t) (symmetry_of e.child) (count_of planted_order e es) (symmetry_of (without e t)) (length (drawings_by n e.child)) (length (drawings_by n (without e t))) (node_factorials e.child) (factorial (length (root_edges u))) (factorials_above (without e t)) (factorials_above t)
-        (symmetry-without e t there) (ordering n e.child (omega (arith, h, fewer))) (ordering n (without e t) (omega (arith, h, fewer)) ∙ ap (λ (i : ℕ). factorial i * factorials_above (without e t)) many) (factorials-without e t there)
+    let there = from_distinct planted_order planted_total planted_exact e es k in
+    let fewer = edge_count-without e t there in
+    let many : length (root_edges (without e t)) ≡ length (root_edges u) = omega (arith, length-without e t there) in
+    ap (λ (i : ℕ). symmetry_of t * i) (length-grafts e (drawings_by n e.child) (drawings_by n (without e t)))
+    ∙ product_step (symmetry_of t) (symmetry_of e.child) (count_of planted_order e es) (symmetry_of (without e t)) (length (drawings_by n e.child)) (length (drawings_by n (without e t))) (node_factorials e.child) (factorial (length (root_edges u))) (factorials_above (without e t)) (factorials_above t)
+    (symmetry-without e t there) (ordering n e.child (omega (arith, h, fewer))) (ordering n (without e t) (omega (arith, h, fewer)) ∙ ap (λ (i : ℕ). factorial i * factorials_above (without e t)) many) (factorials-without e t there)
     in
     ap (λ (i : ℕ). symmetry_of t * i) (length-flat_map (first_drawn (drawings_by n) t) ds)
     ∙ sym (total-scale (symmetry_of t) (λ e. length (first_drawn (drawings_by n) t e)) ds)

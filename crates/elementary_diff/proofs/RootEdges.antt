@@ -1,13 +1,12 @@
 -- A canonical tree without one of its root's edges.
-use Rattle.std.proofs.Common.{◌≡◌, ℕ, zero, suc, ◌+◌, ◌*◌, ◌<◌, ◌≤◌, Bool, true, false, cond, if◌then◌else◌, List, [], ◌∷◌, length, refl, sym, ap, subst, ◌∙◌, inl, inr, arith, Ordering, Less, Equal, Greater}
+use Rattle.std.proofs.Common.{◌≡◌, ℕ, suc, ◌+◌, ◌*◌, Bool, true, false, cond, if◌then◌else◌, List, [], ◌∷◌, length, refl, sym, ap, subst, ◌∙◌, inl, inr, arith, Ordering, Less, Equal, Greater}
 use Rattle.std.specs.Ordering.{is_eq, is_gt, ordering_reverse}
 use Rattle.std.proofs.lemmas.Cmp.{upto, tied_itself}
-use Rattle.multiplicities.specs.Factorial.{factorial}
 use Rattle.ordered_lists.specs.Members.{IsIn}
 use Rattle.ordered_lists.specs.Subs.{count_of}
 use Rattle.ordered_lists.proofs.Unique.{own}
 use Rattle.plain_trees.specs.Plain.{Plain, bare, graft, edge_count_of}
-use Rattle.plain_trees.specs.Canon.{Planted, planted_order, with_edge, canon, IsAtMostFirst, IsCanonical}
+use Rattle.plain_trees.specs.Canon.{Planted, planted_order, with_edge, IsAtMostFirst, IsCanonical}
 use Rattle.plain_trees.proofs.CanonLaws.{planted_total, planted_exact}
 use Rattle.elementary_diff.specs.Symmetry.{planted, root_edges, symmetry_of}
 use Rattle.elementary_diff.specs.Orders.{factorials_above, node_factorials}
@@ -180,15 +179,15 @@ symmetry-without e (bare n) k = absurd k
 symmetry-without e (graft l q d t) k =
     one_less e l q d t (λ u. symmetry_of (graft l q d t) ≡ symmetry_of e.child * count_of planted_order e (root_edges (graft l q d t)) * symmetry_of u)
     (λ s i. subst (λ (g : Planted). symmetry_of (graft l q d t) ≡ symmetry_of g.child * count_of planted_order g (root_edges (graft l q d t)) * symmetry_of t) (sym i)
-        (symmetry-graft l q d t ∙ ap (λ (n : ℕ). symmetry_of d * n * symmetry_of t) (omega (arith, own planted_order planted_total (planted l q d)))))
+    (symmetry-graft l q d t ∙ ap (λ (n : ℕ). symmetry_of d * n * symmetry_of t) (omega (arith, own planted_order planted_total (planted l q d)))))
     (λ s.
-        let f = planted l q d in
-        let r = later e f t s k in
-        let mine : count_of planted_order e (root_edges (graft l q d t)) ≡ count_of planted_order e (root_edges t) = omega (arith, other_counts (planted_order e f) s) in
-        let others : count_of planted_order f (root_edges t) ≡ count_of planted_order f (root_edges (without e t)) = omega (arith, counts-without f e t r, other_counts (planted_order f e) (turned e f s)) in
-        symmetry-graft l q d t
-        ∙ symmetry_step (symmetry_of d) (symmetry_of e.child) (count_of planted_order e (root_edges t)) (count_of planted_order f (root_edges t)) (symmetry_of (without e t)) (symmetry_of t) (symmetry-without e t r)
-        ∙ rw (mine, others, symmetry-graft l q d (without e t)) refl)
+    let f = planted l q d in
+    let r = later e f t s k in
+    let mine : count_of planted_order e (root_edges (graft l q d t)) ≡ count_of planted_order e (root_edges t) = omega (arith, other_counts (planted_order e f) s) in
+    let others : count_of planted_order f (root_edges t) ≡ count_of planted_order f (root_edges (without e t)) = omega (arith, counts-without f e t r, other_counts (planted_order f e) (turned e f s)) in
+    symmetry-graft l q d t
+    ∙ symmetry_step (symmetry_of d) (symmetry_of e.child) (count_of planted_order e (root_edges t)) (count_of planted_order f (root_edges t)) (symmetry_of (without e t)) (symmetry_of t) (symmetry-without e t r)
+    ∙ rw (mine, others, symmetry-graft l q d (without e t)) refl)
   where
     turned : (x y : Planted) → same x y ≡ false → same y x ≡ false
     turned x y h = at (planted_order x y) h (planted_total.antisymm y x)

@@ -1,16 +1,15 @@
 -- The list of pairings: each of them is one, all are there, and they are in order.
-use Rattle.std.proofs.Common.{◌≡◌, ℕ, zero, suc, ◌+◌, ◌<◌, ◌≤◌, ◌==◌, Bool, true, false, cond, List, [], ◌∷◌, ◌++◌, map, length, refl, sym, ap, subst, ◌∙◌, inl, inr, ◌⊎◌, arith, append_assoc, length-append, Ordering, Less, Equal, Greater, nat_cmp}
+use Rattle.std.proofs.Common.{◌≡◌, ℕ, zero, suc, ◌+◌, ◌<◌, ◌≤◌, ◌==◌, true, false, cond, List, [], ◌∷◌, ◌++◌, map, length, refl, sym, ap, subst, ◌∙◌, inl, inr, ◌⊎◌, arith, append_assoc, length-append, Ordering, Less, Equal, Greater, nat_cmp}
 use Rattle.std.specs.List.{AllByRecursion}
 use Rattle.std.specs.List.Sorted.{IsStrictlySortedBy}
 use Rattle.std.specs.Ordering.{is_eq, ordering_then}
-use Rattle.std.specs.Cmp.Lexicographic.{slice_cmp}
 use Rattle.std.proofs.lemmas.Bool.Decides.{nat_tests}
 use Rattle.ordered_lists.specs.Members.{IsIn}
 use Rattle.ordered_lists.specs.Subs.{count_of}
 use Rattle.ordered_lists.proofs.Members.{from_append, from_map, in_map, in_append_left, in_append_right}
 use Rattle.gaussian_pairings.specs.declared.noises.NoiseEdge.{NoiseEdge}
-use Rattle.gaussian_pairings.specs.Pairings.{Pair, numbers, ends, pair_order, pairing_order, IsPair, IsPairing, ArePairings, numbered}
-use Rattle.gaussian_pairings.specs.Listing.{paired, partners, pairings_by, pairings_of}
+use Rattle.gaussian_pairings.specs.Pairings.{Pair, numbers, ends, pair_order, IsPair, IsPairing}
+use Rattle.gaussian_pairings.specs.Listing.{paired, partners, pairings_by}
 
 -- what holds of all members of a list
 pub all_at : {X : Type 0} (P : X → Type 0) (xs : List X) (x : X) → AllByRecursion P xs → IsIn x xs → P x
@@ -148,11 +147,16 @@ is_pairing-cons x xs y c qs up group h =
     let more : (z : NoiseEdge) → IsIn z (c.before ++ c.after) → IsIn z xs = λ z k. subst (λ (zs : List NoiseEdge). IsIn z zs) (sym c.is) (in_more z y c.before c.after k) in
     let above : (z : NoiseEdge) → IsIn z xs → x.number < z.number = λ z k. all_at (λ z. x.number < z.number) xs z up.0 k in
     record {
-      pairs = (record { ascending = above y there; noises = (x, y, inl refl, inr there, refl, refl, group) },
+      pairs = (
+        record { ascending = above y there; noises = (x, y, inl refl, inr there, refl, refl, group) },
         all_from (IsPair (x ∷ xs)) qs (λ q k. let p = all_at (IsPair (c.before ++ c.after)) qs q h.pairs k in
-          record { ascending = p.ascending; noises = (p.noises.0, p.noises.1, inr (more p.noises.0 p.noises.2), inr (more p.noises.1 p.noises.3), p.noises.4, p.noises.5, p.noises.6) }));
-      ascending = (all_from (λ q. pair_order (x.number, y.number) q ≡ Less) qs (λ q k. let p = all_at (IsPair (c.before ++ c.after)) qs q h.pairs k in
-          pair_less (x.number, y.number) q (rw (← p.noises.4) (above p.noises.0 (more p.noises.0 p.noises.2)))), h.ascending);
+            record { ascending = p.ascending; noises = (p.noises.0, p.noises.1, inr (more p.noises.0 p.noises.2), inr (more p.noises.1 p.noises.3), p.noises.4, p.noises.5, p.noises.6) }),
+      );
+      ascending = (
+        all_from (λ q. pair_order (x.number, y.number) q ≡ Less) qs (λ q k. let p = all_at (IsPair (c.before ++ c.after)) qs q h.pairs k in
+            pair_less (x.number, y.number) q (rw (← p.noises.4) (above p.noises.0 (more p.noises.0 p.noises.2)))),
+        h.ascending,
+      );
       partition = λ i. omega (arith, h.partition i, times_among i c.before c.after y, ap (λ (zs : List NoiseEdge). times i (numbers zs)) c.is);
     }
 
@@ -204,12 +208,12 @@ first_pair x xs p qs up h = elim h.pairs.0.noises.2 [
   | inl e ↦ elim h.pairs.0.noises.3 [
     | inl f ↦ absurd (omega (arith, h.pairs.0.ascending, h.pairs.0.noises.4, h.pairs.0.noises.5, ap (λ (z : NoiseEdge). z.number) e, ap (λ (z : NoiseEdge). z.number) f))
     | inr r ↦ record {
-        partner = h.pairs.0.noises.1;
-        cut = cut_at h.pairs.0.noises.1 xs r;
-        group = ap (λ (z : NoiseEdge). z.group) e ∙ h.pairs.0.noises.6;
-        first = ap (λ (z : NoiseEdge). z.number) e ∙ h.pairs.0.noises.4;
-        second = h.pairs.0.noises.5;
-      }
+      partner = h.pairs.0.noises.1;
+      cut = cut_at h.pairs.0.noises.1 xs r;
+      group = ap (λ (z : NoiseEdge). z.group) e ∙ h.pairs.0.noises.6;
+      first = ap (λ (z : NoiseEdge). z.number) e ∙ h.pairs.0.noises.4;
+      second = h.pairs.0.noises.5;
+    }
   ]
   | inr r ↦ absurd (omega (arith, h.partition x.number, unit_same x.number, ends_above x.number (p ∷ qs) (all r)))
 ]
@@ -218,12 +222,13 @@ first_pair x xs p qs up h = elim h.pairs.0.noises.2 [
     beyond r = omega (arith, h.pairs.0.noises.4, all_at (λ z. x.number < z.number) xs h.pairs.0.noises.0 up.0 r)
 
     all : IsIn h.pairs.0.noises.0 xs → AllByRecursion (λ q. (x.number < q.0) × (x.number < q.1)) (p ∷ qs)
-    all r =
-        ((beyond r, omega (arith, beyond r, h.pairs.0.ascending)),
-          all_from (λ q. (x.number < q.0) × (x.number < q.1)) qs (λ q k.
-              let later = not_after p q (all_at (λ q. pair_order p q ≡ Less) qs q h.ascending.0 k) in
-              let rises = (all_at (IsPair (x ∷ xs)) qs q h.pairs.1 k).ascending in
-              (omega (arith, beyond r, later), omega (arith, beyond r, later, rises))))
+    all r = (
+      (beyond r, omega (arith, beyond r, h.pairs.0.ascending)),
+      all_from (λ q. (x.number < q.0) × (x.number < q.1)) qs (λ q k.
+          let later = not_after p q (all_at (λ q. pair_order p q ≡ Less) qs q h.ascending.0 k) in
+          let rises = (all_at (IsPair (x ∷ xs)) qs q h.pairs.1 k).ascending in
+          (omega (arith, beyond r, later), omega (arith, beyond r, later, rises))),
+    )
 
 rest_is_pairing : (x : NoiseEdge) (xs : List NoiseEdge) (p : Pair) (qs : List Pair) (f : FirstPair x xs p qs) → Ascend (x ∷ xs) → IsPairing (x ∷ xs) (p ∷ qs) → IsPairing (f.cut.before ++ f.cut.after) qs
 unfolding IsStrictlySortedBy
@@ -232,8 +237,15 @@ rest_is_pairing x xs p qs f up h =
       pairs = all_from (IsPair (f.cut.before ++ f.cut.after)) qs (λ q k. let w = all_at (IsPair (x ∷ xs)) qs q h.pairs.1 k in
           record {
             ascending = w.ascending;
-            noises = (w.noises.0, w.noises.1, stays w.noises.0 w.noises.2 (subst (λ i. IsIn i (ends qs)) (sym w.noises.4) (in_ends_first q qs k)),
-                stays w.noises.1 w.noises.3 (subst (λ i. IsIn i (ends qs)) (sym w.noises.5) (in_ends_second q qs k)), w.noises.4, w.noises.5, w.noises.6);
+            noises = (
+              w.noises.0,
+              w.noises.1,
+              stays w.noises.0 w.noises.2 (subst (λ i. IsIn i (ends qs)) (sym w.noises.4) (in_ends_first q qs k)),
+              stays w.noises.1 w.noises.3 (subst (λ i. IsIn i (ends qs)) (sym w.noises.5) (in_ends_second q qs k)),
+              w.noises.4,
+              w.noises.5,
+              w.noises.6,
+            );
           });
       ascending = h.ascending.1;
       partition = λ i. omega (arith, h.partition i, times_among i f.cut.before f.cut.after f.partner, ap (λ (zs : List NoiseEdge). times i (numbers zs)) f.cut.is, ap (unit i) f.first, ap (unit i) f.second);

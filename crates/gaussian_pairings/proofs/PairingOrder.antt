@@ -1,5 +1,5 @@
 -- The list of pairings is in lexicographic order.
-use Rattle.std.proofs.Common.{◌≡◌, ℕ, zero, suc, ◌+◌, ◌<◌, ◌==◌, Bool, true, false, cond, List, [], ◌∷◌, ◌++◌, map, length, refl, sym, ap, subst, ◌∙◌, inl, inr, arith, append_assoc, Ordering, Less, nat_cmp}
+use Rattle.std.proofs.Common.{◌≡◌, ℕ, zero, suc, ◌+◌, ◌<◌, ◌==◌, true, false, cond, List, [], ◌∷◌, ◌++◌, map, length, refl, sym, ap, subst, ◌∙◌, inl, inr, arith, append_assoc, Ordering, Less}
 use Rattle.std.specs.List.{AllByRecursion}
 use Rattle.std.specs.List.Sorted.{IsStrictlySortedBy}
 use Rattle.std.specs.Ordering.{ordering_then}
@@ -14,9 +14,10 @@ use Rattle.gaussian_pairings.proofs.PairingLaws.{Ascend, ascend_fewer, all_at, a
 sorted_append : {X : Type 0} (R : X → X → Ordering) (xs ys : List X) → IsStrictlySortedBy R xs → IsStrictlySortedBy R ys → ((a b : X) → IsIn a xs → IsIn b ys → R a b ≡ Less) → IsStrictlySortedBy R (xs ++ ys)
 unfolding IsStrictlySortedBy
 sorted_append R [] ys h k cross = k
-sorted_append {X} R (x ∷ xs) ys h k cross =
-    (all_from (λ (b : X). R x b ≡ Less) (xs ++ ys) (λ b m. elim (from_append b xs ys m) [ inl a ↦ all_at (λ (b : X). R x b ≡ Less) xs b h.0 a | inr c ↦ cross x b (inl refl) c ]),
-      sorted_append R xs ys h.1 k (λ a b m n. cross a b (inr m) n))
+sorted_append {X} R (x ∷ xs) ys h k cross = (
+  all_from (λ (b : X). R x b ≡ Less) (xs ++ ys) (λ b m. elim (from_append b xs ys m) [ inl a ↦ all_at (λ (b : X). R x b ≡ Less) xs b h.0 a | inr c ↦ cross x b (inl refl) c ]),
+  sorted_append R xs ys h.1 k (λ a b m n. cross a b (inr m) n),
+)
 
 behind_pair : (p : Pair) (ps qs : List Pair) → pairing_order (p ∷ ps) (p ∷ qs) ≡ pairing_order ps qs
 behind_pair p ps qs = ap (λ (o : Ordering). ordering_then o (pairing_order ps qs)) (pair_equal p)
@@ -24,11 +25,12 @@ behind_pair p ps qs = ap (λ (o : Ordering). ordering_then o (pairing_order ps q
 sorted_behind : (p : Pair) (pss : List (List Pair)) → IsStrictlySortedBy pairing_order pss → IsStrictlySortedBy pairing_order (map (λ ps. p ∷ ps) pss)
 unfolding IsStrictlySortedBy
 sorted_behind p [] h = tt
-sorted_behind p (ps ∷ pss) h =
-    (all_from (λ (b : List Pair). pairing_order (p ∷ ps) b ≡ Less) (map (λ ps. p ∷ ps) pss) (λ b m.
-        let f = from_map (λ ps. p ∷ ps) b pss m in
-        subst (λ (b : List Pair). pairing_order (p ∷ ps) b ≡ Less) f.2 (behind_pair p ps f.0 ∙ all_at (λ (b : List Pair). pairing_order ps b ≡ Less) pss f.0 h.0 f.1)),
-      sorted_behind p pss h.1)
+sorted_behind p (ps ∷ pss) h = (
+  all_from (λ (b : List Pair). pairing_order (p ∷ ps) b ≡ Less) (map (λ ps. p ∷ ps) pss) (λ b m.
+      let f = from_map (λ ps. p ∷ ps) b pss m in
+      subst (λ (b : List Pair). pairing_order (p ∷ ps) b ≡ Less) f.2 (behind_pair p ps f.0 ∙ all_at (λ (b : List Pair). pairing_order ps b ≡ Less) pss f.0 h.0 f.1)),
+  sorted_behind p pss h.1,
+)
 
 sorted_paired : (x y : NoiseEdge) (pss : List (List Pair)) → IsStrictlySortedBy pairing_order pss → IsStrictlySortedBy pairing_order (paired x y pss)
 unfolding IsStrictlySortedBy
@@ -51,11 +53,11 @@ sorted_partners r x before (y ∷ after) sorted up =
     (sorted_paired x y (r (before ++ after)) (sorted (before ++ after) (ascend_fewer y before after up)))
     (sorted_partners r x (before ++ y ∷ []) after sorted (subst Ascend (sym (append_assoc before (y ∷ []) after)) up))
     (λ a b m n.
-        let f = from_paired x y (r (before ++ after)) a m in
-        let p = from_partners r x (before ++ y ∷ []) after b n in
-        let there : IsIn p.partner after = subst (λ (zs : List NoiseEdge). IsIn p.partner zs) (sym p.cut.is) (in_there p.partner p.cut.before p.cut.after) in
-        let lt = all_at (λ z. y.number < z.number) after p.partner (above_first y before after up) there in
-        subst (λ (a : List Pair). pairing_order a b ≡ Less) f.1.2 (subst (λ (b : List Pair). pairing_order ((x.number, y.number) ∷ f.1.0) b ≡ Less) p.is (later_partner x.number y.number p.partner.number f.1.0 p.rest lt)))
+    let f = from_paired x y (r (before ++ after)) a m in
+    let p = from_partners r x (before ++ y ∷ []) after b n in
+    let there : IsIn p.partner after = subst (λ (zs : List NoiseEdge). IsIn p.partner zs) (sym p.cut.is) (in_there p.partner p.cut.before p.cut.after) in
+    let lt = all_at (λ z. y.number < z.number) after p.partner (above_first y before after up) there in
+    subst (λ (a : List Pair). pairing_order a b ≡ Less) f.1.2 (subst (λ (b : List Pair). pairing_order ((x.number, y.number) ∷ f.1.0) b ≡ Less) p.is (later_partner x.number y.number p.partner.number f.1.0 p.rest lt)))
 
 pub pairings_ascend : (f : ℕ) (ns : List NoiseEdge) → Ascend ns → IsStrictlySortedBy pairing_order (pairings_by f ns)
 unfolding IsStrictlySortedBy

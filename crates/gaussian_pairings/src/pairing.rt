@@ -41,7 +41,11 @@ impl From<AllocError> for PairingError {
 }
 
 /// Puts a pairing of these pairs behind others.
-fn put_pairing(alloc: Global, pairs: &[(u16, u16)], all: &mut Vec<Pairing>) -> Result<(), AllocError>
+fn put_pairing(
+    alloc: Global,
+    pairs: &[(u16, u16)],
+    all: &mut Vec<Pairing>,
+) -> Result<(), AllocError>
     ensures { OnOk result (pairs_of all.new.items ≡ pairs_of all.old.items ++ pairs.now ∷ []) }
 {
     let pairs = Items::from_slice(alloc, pairs)?;

@@ -32,10 +32,10 @@ two_noises group groups =
       scaling = 2 ∷ 1 ∷ 0 ∷ 0 ∷ 0 ∷ [];
       units = record { den = pos 2 };
       list =
-        record { name = 120 ∷ 105 ∷ []; kind = Noise; degree = record { a = neg_ℤ (pos 3); b = neg_ℤ (pos 2) }; group = 0 }
-        ∷ record { name = 101 ∷ 116 ∷ 97 ∷ []; kind = Noise; degree = record { a = neg_ℤ (pos 3); b = neg_ℤ (pos 2) }; group = group }
-        ∷ record { name = 117 ∷ []; kind = Kernel; degree = record { a = pos 4; b = pos 0 }; group = 0 }
-        ∷ [];
+          record { name = 120 ∷ 105 ∷ []; kind = Noise; degree = record { a = neg_ℤ (pos 3); b = neg_ℤ (pos 2) }; group = 0 }
+          ∷ record { name = 101 ∷ 116 ∷ 97 ∷ []; kind = Noise; degree = record { a = neg_ℤ (pos 3); b = neg_ℤ (pos 2) }; group = group }
+          ∷ record { name = 117 ∷ []; kind = Kernel; degree = record { a = pos 4; b = pos 0 }; group = 0 }
+          ∷ [];
       groups = groups;
     }
 

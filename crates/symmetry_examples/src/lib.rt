@@ -93,7 +93,10 @@ mod tests {
         ];
         let types = phi43_types(rt.alloc()).expect(&rt, "types");
         for (text, factor, vanishing) in cases {
-            assert_eq!(rt; symmetry_and_vanishing(rt.alloc(), &types, text), Some((factor, vanishing)));
+            assert_eq!(rt;
+                symmetry_and_vanishing(rt.alloc(), &types, text),
+                Some((factor, vanishing))
+            );
         }
     }
 
@@ -119,7 +122,10 @@ mod tests {
             .expect(&rt, "read")
             .expect(&rt, "pairings");
         assert!(rt; none.is_empty());
-        assert_eq!(rt; symmetry_and_vanishing(rt.alloc(), &apart, text), Some((1, true)));
+        assert_eq!(rt;
+            symmetry_and_vanishing(rt.alloc(), &apart, text),
+            Some((1, true))
+        );
         let one = pairings_of_text(rt.alloc(), &together, text)
             .expect(&rt, "read")
             .expect(&rt, "pairings");
@@ -127,7 +133,10 @@ mod tests {
         for pairing in one.iter() {
             assert!(rt; pairing.pairs.as_slice() == [(1, 2)].as_slice());
         }
-        assert_eq!(rt; symmetry_and_vanishing(rt.alloc(), &together, text), Some((1, false)));
+        assert_eq!(rt;
+            symmetry_and_vanishing(rt.alloc(), &together, text),
+            Some((1, false))
+        );
     }
 
     #[test]

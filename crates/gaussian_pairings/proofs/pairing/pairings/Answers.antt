@@ -1,4 +1,4 @@
-use Rattle.std.proofs.Common.{arith, ap, ◌≡◌, ◌∙◌, sym, length, List, ℕ, ◌++◌}
+use Rattle.std.proofs.Common.{arith, ap, ◌≡◌, ◌∙◌, length, List, ℕ, ◌++◌}
 use Rattle.tree_pool.specs.Content.{tree_at}
 use Rattle.gaussian_pairings.specs.Pairings.{numbered, pairs_of}
 use Rattle.gaussian_pairings.specs.Vanishing.{noise_groups}
