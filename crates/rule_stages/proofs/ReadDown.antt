@@ -17,7 +17,7 @@ use Rattle.tree_cuttings.proofs.ByNumbers.{cut_size, rows_from, flat_of}
 use Rattle.rule_stages.proofs.Components.{HasMultis}
 
 -- what the list of the multiindices below another one holds
-IsBelow : List ℕ → List ℕ → Type 0
+abbrev pub IsBelow : List ℕ → List ℕ → Type 0
 IsBelow [] [] = Unit {0}
 IsBelow [] (x ∷ xs) = ⊥
 IsBelow (k ∷ ks) [] = ⊥
@@ -27,8 +27,7 @@ in_down_from : (x k : ℕ) → IsIn k (down_from x) → k ≤ x
 in_down_from zero k h = elim h [ inl e ↦ omega (arith, e) | inr none ↦ absurd none ]
 in_down_from (suc x) k h = elim h [ inl e ↦ omega (arith, e) | inr rest ↦ (let le = in_down_from x k rest in omega (arith, le)) ]
 
-in_below : (n a : List ℕ) → IsIn a (below n) → IsBelow a n
-unfolding IsBelow
+pub in_below : (n a : List ℕ) → IsIn a (below n) → IsBelow a n
 in_below [] a h = elim h [ inl e ↦ subst (λ l. IsBelow l []) e tt | inr none ↦ absurd none ]
 in_below (x ∷ xs) a h =
     let first = from_flat_map (λ k. map (λ ks. k ∷ ks) (below xs)) a (down_from x) h in
@@ -36,14 +35,12 @@ in_below (x ∷ xs) a h =
     subst (λ l. IsBelow l (x ∷ xs)) rest.2 (in_down_from x first.0 first.1, in_below xs rest.0 rest.1)
 
 length-below : (a n : List ℕ) → IsBelow a n → length a ≡ length n
-unfolding IsBelow
 length-below [] [] h = refl
 length-below [] (x ∷ xs) h = absurd h
 length-below (k ∷ ks) [] h = absurd h
 length-below (k ∷ ks) (x ∷ xs) h = ap suc (length-below ks xs h.1)
 
 zeros-below : (dims : ℕ) (a n : List ℕ) → IsBelow a n → AllByRecursion (λ x. x ≡ 0) (drop dims n) → AllByRecursion (λ x. x ≡ 0) (drop dims a)
-unfolding IsBelow
 zeros-below dims [] [] h z = z
 zeros-below dims [] (x ∷ xs) h z = absurd h
 zeros-below dims (k ∷ ks) [] h z = absurd h
@@ -54,14 +51,12 @@ multi-below : (dims : ℕ) (a n : List ℕ) → IsBelow a n → IsMultiIndex dim
 multi-below dims a n h m = record { entries = length-below a n h ∙ m.entries; rest = zeros-below dims a n h m.rest }
 
 minus-below : (a n : List ℕ) → IsBelow a n → IsBelow (minus_of n a) n
-unfolding IsBelow
 minus-below [] [] h = tt
 minus-below [] (x ∷ xs) h = absurd h
 minus-below (k ∷ ks) [] h = absurd h
 minus-below (k ∷ ks) (x ∷ xs) h = (omega arith, minus-below ks xs h.1)
 
-plus-minus : (a n : List ℕ) → IsBelow a n → plus_of a (minus_of n a) ≡ n
-unfolding IsBelow
+pub plus-minus : (a n : List ℕ) → IsBelow a n → plus_of a (minus_of n a) ≡ n
 plus-minus [] [] h = refl
 plus-minus [] (x ∷ xs) h = absurd h
 plus-minus (k ∷ ks) [] h = absurd h

@@ -1,0 +1,4 @@
+pub mod Made
+pub mod Options
+pub mod Raisings
+pub mod Rows

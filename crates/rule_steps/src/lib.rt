@@ -1,0 +1,2 @@
+//! One step of the completion of a rule.
+#![tactic(auto)]
