@@ -1,3 +1,4 @@
+pub mod Inserted
 pub mod Made
 pub mod Options
 pub mod Raisings

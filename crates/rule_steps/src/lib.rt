@@ -1,2 +1,4 @@
 //! One step of the completion of a rule.
 #![tactic(auto)]
+
+mod edges;
