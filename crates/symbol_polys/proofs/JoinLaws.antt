@@ -16,7 +16,7 @@ use Rattle.symbol_polys.proofs.SymbolLaws.{monomial_order_exact, term_order_tota
 abbrev pub plus : PlainTerm → PlainTerm → PlainTerm
 plus t u = record { coefficient = t.coefficient +ℤ u.coefficient; symbols = t.symbols }
 
-abbrev is_zero : ℤ → Bool
+abbrev pub is_zero : ℤ → Bool
 is_zero (pos zero) = true
 is_zero (pos (suc n)) = false
 is_zero (negsuc n) = false
@@ -33,7 +33,7 @@ join_onto t (u ∷ us) = cond (is_eq (monomial_order t.symbols u.symbols)) (join
 abbrev pub no_sum : PlainTerm
 no_sum = record { coefficient = pos 0; symbols = [] }
 
-abbrev at : List PlainSymbol → PlainTerm → ℤ
+abbrev pub at : List PlainSymbol → PlainTerm → ℤ
 at m t = cond (is_eq (monomial_order t.symbols m)) t.coefficient (pos 0)
 
 nothing : (z : ℤ) (b : Bool) (c : ℤ) → is_zero z ≡ true → c ≡ cond b z (pos 0) +ℤ c
@@ -66,25 +66,25 @@ size_of-kept t ts =
       | false ↦ λ e. refl
     ]) refl
 
-all-kept : (P : List PlainSymbol → Type 0) (t : PlainTerm) (ts : List PlainTerm) → P t.symbols → AllByRecursion P (monomials ts) → AllByRecursion P (monomials (kept t ts))
+pub all-kept : (P : List PlainSymbol → Type 0) (t : PlainTerm) (ts : List PlainTerm) → P t.symbols → AllByRecursion P (monomials ts) → AllByRecursion P (monomials (kept t ts))
 all-kept P t ts p h = elim (is_zero t.coefficient) as (λ b. AllByRecursion P (monomials (cond b ts (t ∷ ts)))) [ true ↦ h | false ↦ (p, h) ]
 
-not_zero-kept : (t : PlainTerm) (ts : List PlainTerm) → AllByRecursion (λ u. 0 < unsigned_abs u.coefficient) ts → AllByRecursion (λ u. 0 < unsigned_abs u.coefficient) (kept t ts)
+pub not_zero-kept : (t : PlainTerm) (ts : List PlainTerm) → AllByRecursion (λ u. 0 < unsigned_abs u.coefficient) ts → AllByRecursion (λ u. 0 < unsigned_abs u.coefficient) (kept t ts)
 not_zero-kept t ts h =
     (elim (is_zero t.coefficient) as (λ b. is_zero t.coefficient ≡ b → AllByRecursion (λ u. 0 < unsigned_abs u.coefficient) (cond b ts (t ∷ ts))) [
       | true ↦ λ e. h
       | false ↦ λ e. (some t.coefficient e, h)
     ]) refl
 
-strict-kept : (t : PlainTerm) (ts : List PlainTerm) → AllByRecursion (λ m. monomial_order t.symbols m ≡ Less) (monomials ts) → IsStrictlySortedBy monomial_order (monomials ts) → IsStrictlySortedBy monomial_order (monomials (kept t ts))
+pub strict-kept : (t : PlainTerm) (ts : List PlainTerm) → AllByRecursion (λ m. monomial_order t.symbols m ≡ Less) (monomials ts) → IsStrictlySortedBy monomial_order (monomials ts) → IsStrictlySortedBy monomial_order (monomials (kept t ts))
 unfolding IsStrictlySortedBy
 strict-kept t ts p h = elim (is_zero t.coefficient) as (λ b. IsStrictlySortedBy monomial_order (monomials (cond b ts (t ∷ ts)))) [ true ↦ h | false ↦ (p, h) ]
 
-both_here : (b : Bool) (x y : ℤ) → cond b (x +ℤ y) (pos 0) ≡ cond b x (pos 0) +ℤ cond b y (pos 0)
+pub both_here : (b : Bool) (x y : ℤ) → cond b (x +ℤ y) (pos 0) ≡ cond b x (pos 0) +ℤ cond b y (pos 0)
 both_here true x y = refl
 both_here false x y = omega (arith, ints)
 
-at-plus : (m : List PlainSymbol) (t u : PlainTerm) → t.symbols ≡ u.symbols → at m (plus t u) ≡ at m t +ℤ at m u
+pub at-plus : (m : List PlainSymbol) (t u : PlainTerm) → t.symbols ≡ u.symbols → at m (plus t u) ≡ at m t +ℤ at m u
 at-plus m t u e =
     both_here (is_eq (monomial_order t.symbols m)) t.coefficient u.coefficient
     ∙ ap (λ (n : List PlainSymbol). at m t +ℤ cond (is_eq (monomial_order n m)) u.coefficient (pos 0)) e
@@ -203,7 +203,7 @@ parts t u us h = parts_at (monomial_order t.symbols u.symbols) (List PlainTerm) 
 made : ℤ → List PlainSymbol → PlainTerm
 made c m = record { coefficient = c; symbols = m }
 
-same_term : (t u : PlainTerm) → t.coefficient ≡ u.coefficient → t.symbols ≡ u.symbols → t ≡ u
+pub same_term : (t u : PlainTerm) → t.coefficient ≡ u.coefficient → t.symbols ≡ u.symbols → t ≡ u
 unfolding made
 same_term t u h k = ap (λ (c : ℤ). made c t.symbols) h ∙ ap (λ (m : List PlainSymbol). made u.coefficient m) k
 
@@ -230,7 +230,7 @@ pub joined_all : (done ts ts' : List PlainTerm) (t : PlainTerm) → IsJoinedSoFa
 joined_all done ts ts' t h k =
     sym (append-nil ts') ∙ k [] ∙ h [] ∙ ap (λ (vs : List PlainTerm). join_onto no_sum vs) (append-nil done)
 
-zero_is : (z : ℤ) → is_zero z ≡ true → z ≡ pos 0
+pub zero_is : (z : ℤ) → is_zero z ≡ true → z ≡ pos 0
 zero_is (pos zero) h = refl
 zero_is (pos (suc n)) h = absurd cc
 zero_is (negsuc n) h = absurd cc

@@ -1,6 +1,8 @@
 pub mod AddLaws
+pub mod CongruenceLaws
 pub mod DerivativeLaws
 pub mod JoinLaws
+pub mod LinearLaws
 pub mod MonomialLaws
 pub mod Numerals
 pub mod PermutedLaws

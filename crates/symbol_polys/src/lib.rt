@@ -5,6 +5,7 @@
 mod collecting;
 mod derivatives;
 mod error;
+mod laws;
 mod masses;
 mod poly;
 mod products;
@@ -16,6 +17,7 @@ mod text;
 
 pub use derivatives::derive;
 pub use error::PolyError;
+pub use laws::coefficients_determine;
 pub use poly::{Poly, Term, one, scale, symbol, zero};
 pub use products::mul;
 pub use sums::add;
