@@ -3,3 +3,4 @@ pub mod Made
 pub mod Options
 pub mod Raisings
 pub mod Rows
+pub mod Units
