@@ -27,7 +27,7 @@ times i xs = count_of nat_cmp i xs
 abbrev unit : ℕ → ℕ → ℕ
 unit i x = cond (is_eq (nat_cmp i x)) 1 0
 
-unit_same : (i : ℕ) → unit i i ≡ 1
+pub unit_same : (i : ℕ) → unit i i ≡ 1
 unit_same i = grind (arith, nat_tests)
 
 unit_other : (i x : ℕ) → (i ≡ x → ⊥) → unit i x ≡ 0
@@ -37,7 +37,7 @@ times_member : (i : ℕ) (xs : List ℕ) → IsIn i xs → 0 < times i xs
 times_member i [] h = absurd h
 times_member i (x ∷ xs) h = elim h [ inl e ↦ omega (arith, unit_same i, ap (unit i) e) | inr r ↦ omega (arith, times_member i xs r) ]
 
-times_none : (i : ℕ) (xs : List ℕ) → ((x : ℕ) → IsIn x xs → i ≡ x → ⊥) → times i xs ≡ 0
+pub times_none : (i : ℕ) (xs : List ℕ) → ((x : ℕ) → IsIn x xs → i ≡ x → ⊥) → times i xs ≡ 0
 times_none i [] h = refl
 times_none i (x ∷ xs) h = omega (arith, unit_other i x (h x (inl refl)), times_none i xs (λ y k. h y (inr k)))
 
@@ -72,7 +72,7 @@ pub record Cut (y : NoiseEdge) (xs : List NoiseEdge) : Type 0 where
   pub after : List NoiseEdge
   pub is : xs ≡ before ++ y ∷ after
 
-cut_at : (y : NoiseEdge) (xs : List NoiseEdge) → IsIn y xs → Cut y xs
+pub cut_at : (y : NoiseEdge) (xs : List NoiseEdge) → IsIn y xs → Cut y xs
 cut_at y [] h = absurd h
 cut_at y (x ∷ xs) h = elim h [
   | inl e ↦ record { before = []; after = xs; is = ap (λ (z : NoiseEdge). z ∷ xs) e }
@@ -140,7 +140,7 @@ pub pair_equal : (p : Pair) → pair_order p p ≡ Equal
 pair_equal p = grind (arith, nat_tests)
 
 -- one more noise edge and its partner
-is_pairing-cons : (x : NoiseEdge) (xs : List NoiseEdge) (y : NoiseEdge) (c : Cut y xs) (qs : List Pair) → Ascend (x ∷ xs) → x.group ≡ y.group → IsPairing (c.before ++ c.after) qs → IsPairing (x ∷ xs) ((x.number, y.number) ∷ qs)
+pub is_pairing-cons : (x : NoiseEdge) (xs : List NoiseEdge) (y : NoiseEdge) (c : Cut y xs) (qs : List Pair) → Ascend (x ∷ xs) → x.group ≡ y.group → IsPairing (c.before ++ c.after) qs → IsPairing (x ∷ xs) ((x.number, y.number) ∷ qs)
 unfolding IsStrictlySortedBy
 is_pairing-cons x xs y c qs up group h =
     let there : IsIn y xs = subst (λ (zs : List NoiseEdge). IsIn y zs) (sym c.is) (in_there y c.before c.after) in
@@ -195,14 +195,14 @@ once y (x ∷ xs) up h = elim h [
 ]
 
 -- the first pair of a pairing, and what is left then
-record FirstPair (x : NoiseEdge) (xs : List NoiseEdge) (p : Pair) (qs : List Pair) : Type 0 where
+pub record FirstPair (x : NoiseEdge) (xs : List NoiseEdge) (p : Pair) (qs : List Pair) : Type 0 where
   pub partner : NoiseEdge
   pub cut : Cut partner xs
   pub group : x.group ≡ partner.group
-  first : x.number ≡ p.0
-  second : partner.number ≡ p.1
+  pub first : x.number ≡ p.0
+  pub second : partner.number ≡ p.1
 
-first_pair : (x : NoiseEdge) (xs : List NoiseEdge) (p : Pair) (qs : List Pair) → Ascend (x ∷ xs) → IsPairing (x ∷ xs) (p ∷ qs) → FirstPair x xs p qs
+pub first_pair : (x : NoiseEdge) (xs : List NoiseEdge) (p : Pair) (qs : List Pair) → Ascend (x ∷ xs) → IsPairing (x ∷ xs) (p ∷ qs) → FirstPair x xs p qs
 unfolding IsStrictlySortedBy
 first_pair x xs p qs up h = elim h.pairs.0.noises.2 [
   | inl e ↦ elim h.pairs.0.noises.3 [
@@ -230,7 +230,7 @@ first_pair x xs p qs up h = elim h.pairs.0.noises.2 [
           (omega (arith, beyond r, later), omega (arith, beyond r, later, rises))),
     )
 
-rest_is_pairing : (x : NoiseEdge) (xs : List NoiseEdge) (p : Pair) (qs : List Pair) (f : FirstPair x xs p qs) → Ascend (x ∷ xs) → IsPairing (x ∷ xs) (p ∷ qs) → IsPairing (f.cut.before ++ f.cut.after) qs
+pub rest_is_pairing : (x : NoiseEdge) (xs : List NoiseEdge) (p : Pair) (qs : List Pair) (f : FirstPair x xs p qs) → Ascend (x ∷ xs) → IsPairing (x ∷ xs) (p ∷ qs) → IsPairing (f.cut.before ++ f.cut.after) qs
 unfolding IsStrictlySortedBy
 rest_is_pairing x xs p qs f up h =
     record {

@@ -71,7 +71,7 @@ above_number : (n i : ℕ) (gs : List ℕ) → n < i → AllByRecursion (λ y. n
 above_number n i [] h = tt
 above_number n i (g ∷ gs) h = (h, above_number n (i + 1) gs (omega (arith, h)))
 
-ascend_numbered : (i : ℕ) (gs : List ℕ) → Ascend (numbered i gs)
+pub ascend_numbered : (i : ℕ) (gs : List ℕ) → Ascend (numbered i gs)
 ascend_numbered i [] = tt
 ascend_numbered i (g ∷ gs) = (above_number i (i + 1) gs (omega arith), ascend_numbered (i + 1) gs)
 

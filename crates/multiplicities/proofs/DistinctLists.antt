@@ -1,6 +1,5 @@
 -- Lists in which no member stands twice.
-use Rattle.std.proofs.Common.{◌≡◌, ℕ, zero, suc, ◌+◌, ◌<◌, ◌≤◌, List, [], ◌∷◌, ◌++◌, length, map, flat_map, refl, sym, ap, subst, ◌∙◌, inl, inr, arith, length-append, cond, Ordering, Less, Equal, Greater}
-use Rattle.std.specs.Ordering.{is_eq}
+use Rattle.std.proofs.Common.{◌≡◌, ℕ, zero, suc, ◌+◌, ◌<◌, ◌≤◌, List, [], ◌∷◌, ◌++◌, length, map, flat_map, refl, sym, ap, subst, ◌∙◌, inl, inr, arith, length-append, Ordering, Less, Equal, Greater}
 use Rattle.std.specs.Cmp.{IsTotalOrder}
 use Rattle.std.specs.FinMap.{IsAntisymmetric}
 use Rattle.ordered_lists.specs.Members.{IsIn}
@@ -8,6 +7,7 @@ use Rattle.ordered_lists.specs.Subs.{count_of}
 use Rattle.ordered_lists.proofs.Members.{from_append, from_map, from_flat_map}
 use Rattle.ordered_lists.proofs.Unique.{own}
 use Rattle.exact_sums.specs.Sums.{total}
+use Rattle.multiplicities.proofs.Grouping.{unit_is}
 use Rattle.multiplicities.specs.Distinct.{with_new, distinct_by, AreDistinct}
 
 pub distinct_append : {X : Type 0} (xs ys : List X) → AreDistinct xs → AreDistinct ys → ((x : X) → IsIn x xs → IsIn x ys → ⊥) → AreDistinct (xs ++ ys)
@@ -57,14 +57,6 @@ distinct_length (x ∷ xs) ys d within =
     let h = within x (inl refl) in
     omega (arith, without-length x ys h, distinct_length xs (without x ys h) d.1 (λ z k. without-others x z ys h (λ e. d.0 (subst (λ w. IsIn w xs) (sym e) k)) (within z (inr k))))
 
-abbrev unit_at : Ordering → ℕ
-unit_at r = cond (is_eq r) 1 0
-
-no_unit : (r : Ordering) → (r ≡ Equal → ⊥) → unit_at r ≡ 0
-no_unit Less h = refl
-no_unit Equal h = absurd (h refl)
-no_unit Greater h = refl
-
 -- the distinct members of a list
 module _ {X : Type 0} (R : X → X → Ordering) (o : IsTotalOrder R) (exact : IsAntisymmetric R) where
   pub member_counts : (x : X) (xs : List X) → IsIn x xs → 0 < count_of R x xs
@@ -83,9 +75,9 @@ module _ {X : Type 0} (R : X → X → Ordering) (o : IsTotalOrder R) (exact : I
   counted_member x [] h = absurd (omega arith)
   counted_member x (y ∷ ys) h =
       (elim (R x y) as (λ r. R x y ≡ r → IsIn x (y ∷ ys)) [
-        | Less ↦ λ e. inr (counted_member x ys (omega (arith, h, no_unit (R x y) (λ k. absurd cc))))
+        | Less ↦ λ e. inr (counted_member x ys (omega (arith, h, unit_is (R x y) (λ k. absurd cc))))
         | Equal ↦ λ e. inl (sym (exact x y e))
-        | Greater ↦ λ e. inr (counted_member x ys (omega (arith, h, no_unit (R x y) (λ k. absurd cc))))
+        | Greater ↦ λ e. inr (counted_member x ys (omega (arith, h, unit_is (R x y) (λ k. absurd cc))))
       ]) refl
 
   pub in_distinct : (x : X) (xs : List X) → IsIn x xs → IsIn x (distinct_by R xs)

@@ -23,10 +23,10 @@ over_product : {X : Type 0} (f : X → ℕ) (xs : List X) → over ◌*◌ 1 f x
 over_product f [] = refl
 over_product f (x ∷ xs) = ap (λ (n : ℕ). f x * n) (over_product f xs)
 
-abbrev unit_at : Ordering → ℕ
+abbrev pub unit_at : Ordering → ℕ
 unit_at r = cond (is_eq r) 1 0
 
-unit_is : (o : Ordering) → (o ≡ Equal → ⊥) → unit_at o ≡ 0
+pub unit_is : (o : Ordering) → (o ≡ Equal → ⊥) → unit_at o ≡ 0
 unit_is Less h = refl
 unit_is Equal h = absurd (h refl)
 unit_is Greater h = refl
