@@ -7,13 +7,10 @@ use Rattle.symbol_polys.specs.Symbols.{PlainSymbol, monomial_order}
 use Rattle.symbol_polys.specs.Polynomials.{PlainTerm, coefficient_of, HaveSameCoefficients}
 use Rattle.symbol_polys.specs.Products.{monomial_product, term_product, products_with, products}
 use Rattle.symbol_polys.specs.Derivatives.{power_of, without, derivative, derivatives}
-use Rattle.symbol_polys.proofs.PolyLaws.{times_sum}
+use Rattle.symbol_polys.proofs.SignedLaws.{times_sum, sum_times}
 use Rattle.symbol_polys.proofs.AddLaws.{coefficient_of-append}
 use Rattle.symbol_polys.proofs.JoinLaws.{plus, at, both_here}
 use Rattle.symbol_polys.proofs.LinearLaws.{total_of, IsLinear, none_at, same_totals}
-
-sum_times : (a b z : ℤ) → (a +ℤ b) *ℤ z ≡ a *ℤ z +ℤ b *ℤ z
-sum_times a b z = *ℤ_comm (a +ℤ b) z ∙ times_sum z a b ∙ ap (λ (x : ℤ). x +ℤ z *ℤ b) (*ℤ_comm z a) ∙ ap (λ (x : ℤ). a *ℤ z +ℤ x) (*ℤ_comm z b)
 
 none_times : (a z : ℤ) → a ≡ pos 0 → a *ℤ z ≡ pos 0
 none_times a z h = ap (λ (x : ℤ). x *ℤ z) h ∙ zero-*ℤ z

@@ -9,5 +9,7 @@ pub mod PermutedLaws
 pub mod PolyLaws
 pub mod Powers
 pub mod ProductLaws
+pub mod ProductRules
 pub mod Putting
+pub mod SignedLaws
 pub mod SymbolLaws

@@ -1,13 +1,13 @@
 -- Polynomials with one term or none, and a polynomial times a number.
-use Rattle.std.proofs.Common.{◌≡◌, ◌≢◌, ℕ, zero, suc, ◌*◌, ◌<◌, ◌≤◌, true, false, Bool, cond, List, [], ◌∷◌, length, get_or, map, ℤ, pos, negsuc, ◌+ℤ◌, ◌-ℤ◌, ◌*ℤ◌, ◌≤ℤ◌, unsigned_abs, FitsSigned, to_z, of_z, refl, sym, ap, subst, ◌∙◌, arith, rules}
+use Rattle.std.proofs.Common.{◌≡◌, ◌≢◌, ℕ, zero, suc, ◌*◌, ◌<◌, ◌≤◌, true, false, Bool, cond, List, [], ◌∷◌, length, get_or, map, ℤ, pos, negsuc, ◌+ℤ◌, ◌*ℤ◌, ◌≤ℤ◌, unsigned_abs, FitsSigned, to_z, of_z, refl, sym, ap, subst, ◌∙◌, arith, rules}
 use Rattle.std.specs.Int.{w128}
 use Rattle.std.specs.List.{AllByRecursion}
 use Rattle.std.specs.List.Sorted.{IsStrictlySortedBy}
 use Rattle.std.specs.Ordering.{is_eq}
 use Rattle.std.proofs.lemmas.Int.{ints, to_z-of_z, unsigned_abs-mul}
-use Rattle.std.proofs.Math.IntN.{zero-*ℤ, suc_ℤ-*ℤ, pred_ℤ-*ℤ}
 use Rattle.std.proofs.lemmas.Nat.{mul-le}
 use Rattle.exact_sums.specs.Saturating.{overflow}
+use Rattle.symbol_polys.proofs.SignedLaws.{times_sum}
 use Rattle.symbol_polys.specs.Symbols.{PlainSymbol, monomial_order, HasBoundedTree, IsMonomial}
 use Rattle.symbol_polys.specs.Polynomials.{PlainTerm, monomials, coefficient_of, size_of, IsPolynomial, times_all}
 use Rattle.symbol_polys.specs.View.{symbol_of, terms_of}
@@ -38,27 +38,6 @@ size_of-times_all z (t ∷ ts) = omega (arith, unsigned_abs-mul z t.coefficient,
 chosen : (z c : ℤ) (b : Bool) → cond b (z *ℤ c) (pos 0) ≡ z *ℤ cond b c (pos 0)
 chosen z c true = refl
 chosen z c false = omega (arith, ints)
-
-more : (p q r p' q' r' a b : ℤ) → p' ≡ p +ℤ (a +ℤ b) → q' ≡ q +ℤ a → r' ≡ r +ℤ b → p ≡ q +ℤ r → p' ≡ q' +ℤ r'
-more p q r p' q' r' a b h i j k = omega (arith, ints)
-
-less : (p q r p' q' r' a b : ℤ) → p' ≡ p -ℤ (a +ℤ b) → q' ≡ q -ℤ a → r' ≡ r -ℤ b → p ≡ q +ℤ r → p' ≡ q' +ℤ r'
-less p q r p' q' r' a b h i j k = omega (arith, ints)
-
-natural_times_sum : (n : ℕ) (a b : ℤ) → pos n *ℤ (a +ℤ b) ≡ pos n *ℤ a +ℤ pos n *ℤ b
-natural_times_sum zero a b = rw (zero-*ℤ (a +ℤ b), zero-*ℤ a, zero-*ℤ b) refl
-natural_times_sum (suc n) a b =
-    more (pos n *ℤ (a +ℤ b)) (pos n *ℤ a) (pos n *ℤ b) _ _ _ a b (suc_ℤ-*ℤ (pos n) (a +ℤ b)) (suc_ℤ-*ℤ (pos n) a) (suc_ℤ-*ℤ (pos n) b) (natural_times_sum n a b)
-
-negative_times_sum : (n : ℕ) (a b : ℤ) → negsuc n *ℤ (a +ℤ b) ≡ negsuc n *ℤ a +ℤ negsuc n *ℤ b
-negative_times_sum zero a b =
-    less (pos 0 *ℤ (a +ℤ b)) (pos 0 *ℤ a) (pos 0 *ℤ b) _ _ _ a b (pred_ℤ-*ℤ (pos 0) (a +ℤ b)) (pred_ℤ-*ℤ (pos 0) a) (pred_ℤ-*ℤ (pos 0) b) (natural_times_sum 0 a b)
-negative_times_sum (suc n) a b =
-    less (negsuc n *ℤ (a +ℤ b)) (negsuc n *ℤ a) (negsuc n *ℤ b) _ _ _ a b (pred_ℤ-*ℤ (negsuc n) (a +ℤ b)) (pred_ℤ-*ℤ (negsuc n) a) (pred_ℤ-*ℤ (negsuc n) b) (negative_times_sum n a b)
-
-pub times_sum : (z a b : ℤ) → z *ℤ (a +ℤ b) ≡ z *ℤ a +ℤ z *ℤ b
-times_sum (pos n) a b = natural_times_sum n a b
-times_sum (negsuc n) a b = negative_times_sum n a b
 
 pub coefficient_of-times_all : (z : ℤ) (m : List PlainSymbol) (ts : List PlainTerm) → coefficient_of m (times_all z ts) ≡ z *ℤ coefficient_of m ts
 coefficient_of-times_all z m [] = omega (arith, ints)

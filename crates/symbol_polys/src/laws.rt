@@ -1,7 +1,8 @@
 // Laws of polynomials and of lists of terms.
-ghost use Rattle.std.specs.Prelude.{◌≡◌, ℤ, List};
-ghost use Rattle.symbol_polys.specs.Symbols.{PlainSymbol};
-ghost use Rattle.symbol_polys.specs.Polynomials.{PlainTerm, HaveSameCoefficients, IsPolynomial};
+ghost use Rattle.std.specs.Prelude.{◌≡◌, ℤ, pos, List, [], ◌∷◌, ◌++◌};
+ghost use Rattle.std.specs.List.{AllByRecursion};
+ghost use Rattle.symbol_polys.specs.Symbols.{PlainSymbol, IsMonomial};
+ghost use Rattle.symbol_polys.specs.Polynomials.{PlainTerm, monomials, HaveSameCoefficients, IsPolynomial};
 ghost use Rattle.symbol_polys.specs.Products.{products};
 ghost use Rattle.symbol_polys.specs.Derivatives.{derivatives};
 
@@ -11,4 +12,12 @@ pub fn coefficients_determine()
     ensures terms { (a b : ℤ) (ts us : List PlainTerm) → IsPolynomial a ts → IsPolynomial b us → HaveSameCoefficients ts us → ts ≡ us }
     ensures products { (ts us vs ws : List PlainTerm) → HaveSameCoefficients ts us → HaveSameCoefficients vs ws → HaveSameCoefficients (products ts vs) (products us ws) }
     ensures derivatives { (s : PlainSymbol) (ts us : List PlainTerm) → HaveSameCoefficients ts us → HaveSameCoefficients (derivatives s ts) (derivatives s us) }
+{}
+
+/// The product of lists of terms is commutative, up to the order of what it lists, associative and distributive, and 1 leaves a list as it is.
+pub fn product_laws()
+    ensures commutative { (ts us : List PlainTerm) → AllByRecursion IsMonomial (monomials ts) → AllByRecursion IsMonomial (monomials us) → HaveSameCoefficients (products ts us) (products us ts) }
+    ensures associative { (ts us vs : List PlainTerm) → AllByRecursion IsMonomial (monomials ts) → AllByRecursion IsMonomial (monomials us) → AllByRecursion IsMonomial (monomials vs) → products (products ts us) vs ≡ products ts (products us vs) }
+    ensures distributive { (ts us vs : List PlainTerm) → products (ts ++ us) vs ≡ products ts vs ++ products us vs }
+    ensures one { (us : List PlainTerm) → products (record { coefficient = pos 1; symbols = [] } ∷ []) us ≡ us }
 {}

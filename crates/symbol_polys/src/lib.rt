@@ -17,7 +17,7 @@ mod text;
 
 pub use derivatives::derive;
 pub use error::PolyError;
-pub use laws::coefficients_determine;
+pub use laws::{coefficients_determine, product_laws};
 pub use poly::{Poly, Term, one, scale, symbol, zero};
 pub use products::mul;
 pub use sums::add;
