@@ -13,7 +13,7 @@ use Rattle.ordered_lists.proofs.Members.{in_map, from_map, in_flat_map, from_fla
 use Rattle.plain_trees.specs.Plain.{Plain, bare, graft, edge_count_of}
 use Rattle.plain_trees.specs.Canon.{Planted, planted_order, with_edge, canon, IsCanonical}
 use Rattle.plain_trees.proofs.CanonLaws.{planted_total, planted_exact}
-use Rattle.elementary_diff.specs.Symmetry.{planted, root_edges, symmetry_of}
+use Rattle.elementary_diff.specs.Symmetry.{root_edge, root_edges, symmetry_of}
 use Rattle.elementary_diff.specs.Orders.{factorials_above, node_factorials, AreDrawings}
 use Rattle.elementary_diff.proofs.RootEdges.{without, with-without, without-with, in-with, without-canonical, child-canonical, length-without, edge_count-without, factorials-without, symmetry-without}
 
@@ -61,7 +61,7 @@ drawing_is (suc n) (graft l q d u) s h k =
     let above = drawing_is n e.child g.child (child-canonical e t h there) g.child_in in
     let beside = drawing_is n (without e t) g.rest (without-canonical e t h) g.rest_in in
     subst (λ (v : Plain). canon v ≡ t) g.is
-    (ap (λ (c : Plain). with_edge (planted e.kind e.p c) (canon g.rest)) above ∙ ap (with_edge e) beside ∙ with-without e t h there)
+    (ap (λ (c : Plain). with_edge (root_edge e.kind e.p c) (canon g.rest)) above ∙ ap (with_edge e) beside ∙ with-without e t h there)
 
 -- all are there
 in_drawings : (n : ℕ) (t : Plain) (e : Planted) (c u : Plain) → IsIn e (root_edges t) → IsIn c (drawings_by n e.child) → IsIn u (drawings_by n (without e t)) → IsIn (graft e.kind e.p c u) (drawings_by (suc n) t)
@@ -75,7 +75,7 @@ pub drawing_there : (n : ℕ) (t s : Plain) → edge_count_of t < n → canon s 
 drawing_there zero t s h k = absurd (omega (arith, h))
 drawing_there (suc n) t (bare m) h k = subst (λ (u : Plain). IsIn (bare m) (drawings_by (suc n) u)) k (inl refl)
 drawing_there (suc n) t (graft l q d v) h k =
-    let e = planted l q (canon d) in
+    let e = root_edge l q (canon d) in
     let there : IsIn e (root_edges t) = subst (λ (u : Plain). IsIn e (root_edges u)) k (in-with e (canon v)) in
     let rest : without e t ≡ canon v = ap (without e) (sym k) ∙ without-with e (canon v) in
     let fewer = edge_count-without e t there in
@@ -91,8 +91,8 @@ rest_of (bare n) = bare n
 rest_of (graft k p c t) = t
 
 first_edge : Plain → Planted
-first_edge (bare n) = planted 0 [] (bare n)
-first_edge (graft k p c t) = planted k p (canon c)
+first_edge (bare n) = root_edge 0 [] (bare n)
+first_edge (graft k p c t) = root_edge k p (canon c)
 
 distinct_grafts : (e : Planted) (cs ts : List Plain) → AreDistinct cs → AreDistinct ts → AreDistinct (grafts e cs ts)
 unfolding first_child rest_of
@@ -111,7 +111,7 @@ drawings_distinct (suc n) (graft l q d u) h =
     distinct_flat_map (first_drawn (drawings_by n) t) first_edge (distinct_by planted_order (root_edges t))
     (λ e k. distinct_grafts e (drawings_by n e.child) (drawings_by n (without e t)) (drawings_distinct n e.child (child-canonical e t h (there e k))) (drawings_distinct n (without e t) (without-canonical e t h)))
     (λ e s k m. let g = from_grafts e (drawings_by n e.child) (drawings_by n (without e t)) s m in
-    ap first_edge (sym g.is) ∙ ap (λ (c : Plain). planted e.kind e.p c) (drawing_is n e.child g.child (child-canonical e t h (there e k)) g.child_in))
+    ap first_edge (sym g.is) ∙ ap (λ (c : Plain). root_edge e.kind e.p c) (drawing_is n e.child g.child (child-canonical e t h (there e k)) g.child_in))
     (distinct_distinct planted_order planted_total planted_exact (root_edges t))
 
 -- how many there are

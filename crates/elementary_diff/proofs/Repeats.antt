@@ -16,11 +16,11 @@ use Rattle.tree_pool.specs.Content.{Content, tree_at, Holds, edge_over, tree_ove
 use Rattle.tree_pool.specs.declared.EdgeTo.{EdgeTo}
 use Rattle.tree_pool.proofs.Trees.{tree_over-injective, AreBelow-le}
 use Rattle.tree_pool.proofs.Walks.{at_holds, no_edge, edges_left, below_left, tree_cut, tree_end}
-use Rattle.elementary_diff.specs.Symmetry.{planted, root_edges, factored_edges, symmetry_product, symmetry_of}
+use Rattle.elementary_diff.specs.Symmetry.{root_edge, root_edges, factored_edges, symmetry_product, symmetry_of}
 use Rattle.elementary_diff.proofs.SymmetryLaws.{symmetry-bare, symmetry-graft, symmetry_pos, symmetry_most}
 
 abbrev planted_at : Content → EdgeTo → Planted
-planted_at c e = planted e.kind.0 e.p.entries (tree_at c e.child.0)
+planted_at c e = root_edge e.kind.0 e.p.entries (tree_at c e.child.0)
 
 planted_equal : (c : Content) (e f : EdgeTo) → IsDistinct c.trees → e.child.0 < length c.trees → f.child.0 < length c.trees → planted_at c e ≡ planted_at c f → e ≡ f
 planted_equal c e f d he hf h =
@@ -81,7 +81,7 @@ symmetry_left c es i d lt =
 -- the symmetry factor does not hang on the root's decoration
 edges_root : (n m : List ℕ) (es : List Labelled) → factored_edges (grafted n es) ≡ factored_edges (grafted m es)
 edges_root n m [] = refl
-edges_root n m (e ∷ es) = ap (λ (xs : List (Planted × ℕ)). (planted e.kind.0 e.p.entries e.child, symmetry_of e.child) ∷ xs) (edges_root n m es)
+edges_root n m (e ∷ es) = ap (λ (xs : List (Planted × ℕ)). (root_edge e.kind.0 e.p.entries e.child, symmetry_of e.child) ∷ xs) (edges_root n m es)
 
 pub symmetry_whole : (c : Content) (i : ℕ) (n : List ℕ) (es : List EdgeTo) → Holds c i (tree_over c.trees n es) → symmetry_of (tree_over c.trees [] es) ≡ symmetry_of (tree_at c i)
 symmetry_whole c i n es h = ap symmetry_product (edges_root [] n (map (edge_over c.trees) es)) ∙ sym (ap symmetry_of (at_holds c i (tree_over c.trees n es) h))

@@ -12,7 +12,7 @@ use Rattle.ordered_lists.specs.Subs.{count_of}
 use Rattle.plain_trees.specs.Plain.{Plain, bare, graft, edge_count_of}
 use Rattle.plain_trees.specs.Canon.{Planted, planted_order}
 use Rattle.plain_trees.proofs.CanonLaws.{planted_total, planted_exact}
-use Rattle.elementary_diff.specs.Symmetry.{planted, root_edges, factored_order, factored_edges, symmetry_product, symmetry_of}
+use Rattle.elementary_diff.specs.Symmetry.{root_edge, root_edges, factored_order, factored_edges, symmetry_product, symmetry_of}
 
 -- members that come with a value that they determine
 module _ {X : Type 0} (R : X → X → Ordering) (f : X → ℕ) where
@@ -46,7 +46,7 @@ root_product = power_product planted_order planted_total planted_exact factor_ab
 
 factored_is : (t : Plain) → factored_edges t ≡ map (valued planted_order factor_above) (root_edges t)
 factored_is (bare n) = refl
-factored_is (graft k p c t) = ap (λ (es : List (Planted × ℕ)). (planted k p c, symmetry_of c) ∷ es) (factored_is t)
+factored_is (graft k p c t) = ap (λ (es : List (Planted × ℕ)). (root_edge k p c, symmetry_of c) ∷ es) (factored_is t)
 
 pub symmetry_is : (t : Plain) → symmetry_of t ≡ root_product (root_edges t)
 symmetry_is t =
@@ -58,11 +58,11 @@ symmetry_is t =
     (λ e. ap (λ (n : ℕ). factor_above e ^ n * factorial n) (count_of-valued planted_order factor_above e es)))
 
 -- one edge more at the root
-pub symmetry-graft : (k : ℕ) (p : List ℕ) (c t : Plain) → symmetry_of (graft k p c t) ≡ symmetry_of c * suc (count_of planted_order (planted k p c) (root_edges t)) * symmetry_of t
+pub symmetry-graft : (k : ℕ) (p : List ℕ) (c t : Plain) → symmetry_of (graft k p c t) ≡ symmetry_of c * suc (count_of planted_order (root_edge k p c) (root_edges t)) * symmetry_of t
 symmetry-graft k p c t =
     symmetry_is (graft k p c t)
-    ∙ power_product-cons planted_order planted_total planted_exact factor_above (planted k p c) (root_edges t)
-    ∙ ap (λ (n : ℕ). symmetry_of c * suc (count_of planted_order (planted k p c) (root_edges t)) * n) (sym (symmetry_is t))
+    ∙ power_product-cons planted_order planted_total planted_exact factor_above (root_edge k p c) (root_edges t)
+    ∙ ap (λ (n : ℕ). symmetry_of c * suc (count_of planted_order (root_edge k p c) (root_edges t)) * n) (sym (symmetry_is t))
 
 pub symmetry-bare : (n : List ℕ) → symmetry_of (bare n) ≡ 1
 symmetry-bare n = refl
@@ -78,7 +78,7 @@ one_at_most Greater = omega arith
 
 pub count_within : (e : Planted) (t : Plain) → count_of planted_order e (root_edges t) ≤ edge_count_of t
 count_within e (bare n) = omega arith
-count_within e (graft k p c t) = omega (arith, count_within e t, one_at_most (planted_order e (planted k p c)))
+count_within e (graft k p c t) = omega (arith, count_within e t, one_at_most (planted_order e (root_edge k p c)))
 
 step_most : (a b s x y m f g : ℕ) → x ≤ f → y ≤ g → s ≤ b → x * s * y ≤ f * (b * g)
 step_most a b s x y m f g h k l =
@@ -93,7 +93,7 @@ symmetry_most (bare n) = omega arith
 symmetry_most (graft k p c t) =
     let a = edge_count_of c in
     let b = edge_count_of t in
-    let step = step_most a (suc b) (suc (count_of planted_order (planted k p c) (root_edges t))) (symmetry_of c) (symmetry_of t) 0 (factorial a) (factorial b) (symmetry_most c) (symmetry_most t) (omega (arith, count_within (planted k p c) t)) in
+    let step = step_most a (suc b) (suc (count_of planted_order (root_edge k p c) (root_edges t))) (symmetry_of c) (symmetry_of t) 0 (factorial a) (factorial b) (symmetry_most c) (symmetry_most t) (omega (arith, count_within (root_edge k p c) t)) in
     let all = factorials_within a (suc b) in
     let e : 1 + a + b ≡ a + suc b = omega arith in
     rw (e, symmetry-graft k p c t) (omega (arith, step, all, ap (λ (n : ℕ). factorial a * n) (factorial-suc b)))

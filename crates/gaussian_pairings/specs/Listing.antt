@@ -1,6 +1,7 @@
 -- The pairings of a list of noise edges one by one: the first is paired with each later one of its group in turn.
 --   paired x y pss == the pair of x and y in front of each of pss, where x and y are of one group
 --   partners rec x before after == x is paired with each of `after` in turn; rec gives the pairings of what is left then
+--   pairings_by n ns == the pairings of ns, as far as n steps find them
 --   pairings_of ns == the pairings of ns
 use Rattle.std.specs.Prelude.{ℕ, zero, suc, ◌==◌, cond, List, [], ◌∷◌, ◌++◌, map, length}
 use Rattle.gaussian_pairings.specs.declared.noises.NoiseEdge.{NoiseEdge}
@@ -13,7 +14,6 @@ abbrev pub partners : (List NoiseEdge → List (List Pair)) → NoiseEdge → Li
 partners rec x before [] = []
 partners rec x before (y ∷ after) = paired x y (rec (before ++ after)) ++ partners rec x (before ++ y ∷ []) after
 
--- the first n steps deep
 abbrev pub pairings_by : ℕ → List NoiseEdge → List (List Pair)
 pairings_by zero [] = [] ∷ []
 pairings_by zero (x ∷ xs) = []

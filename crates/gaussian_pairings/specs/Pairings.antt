@@ -1,4 +1,6 @@
 -- Pairings of the noise edges of a tree: what the expectation of a product of Gaussian variables sums over (Isserlis).
+--   numbered i gs == noise edges of the groups gs, numbered from i
+--   numbers ns == the numbers of the noise edges ns
 --   noise_edges ty t == the noise edges of t, numbered from 1 in preorder, each with its group
 --   ends ps == the numbers in the pairs ps
 --   pair_order, pairing_order == lexicographic order of pairs, and of lists of pairs
@@ -23,7 +25,6 @@ use Rattle.gaussian_pairings.specs.declared.pairing.PairingError.{PairingError}
 use Rattle.gaussian_pairings.specs.declared.pairing.PairingError.TheVariants.{TooManyNoises, Memory}
 use Rattle.gaussian_pairings.specs.Vanishing.{noise_groups}
 
--- numbered from i
 abbrev pub numbered : ℕ → List ℕ → List NoiseEdge
 numbered i [] = []
 numbered i (g ∷ gs) = record { number = i; group = g } ∷ numbered (i + 1) gs

@@ -1,5 +1,5 @@
 -- Noise edges by noise group, and trees whose expectation vanishes.
---   is_noise_type ty k == type k is that of a noise
+--   is_noise_kind, is_noise_type ty k == the test whether type k is that of a noise
 --   noise_groups ty t == the groups of the noise edges of t, in preorder
 --   noise_here ty k g == 1 where an edge of type k is a noise edge of the group g, else 0
 --   noises_in ty t g == how many noise edges of t are in the group g
