@@ -1,2 +1,3 @@
+pub mod Differentials
 pub mod Orders
 pub mod Symmetry
