@@ -31,7 +31,7 @@ use Rattle.equation_document.specs.declared.fault.Entry.TheVariants.{File, Whole
 use Rattle.equation_document.specs.declared.fault.Fault.{Fault}
 use Rattle.equation_document.specs.declared.fault.Fault.TheVariants.{Malformed}
 use Rattle.equation_document.specs.declared.names.Names.{Names}
-use Rattle.equation_document.specs.declared.tables.KeySet.TheVariants as keys
+use Rattle.equation_document.specs.declared.entries.KeySet.TheVariants as keys
 use Rattle.equation_document.proofs.DegreeFacts.{degree_read}
 use Rattle.equation_document.proofs.DocumentRead.{IsDegreeRead, IsFactorRead, IsTermRead, IsUnknownRead, IsRead}
 use Rattle.equation_document.proofs.NameFacts.{names_push}

@@ -14,7 +14,7 @@ use Rattle.equation_document.specs.Limits.{limits_of}
 use Rattle.equation_document.specs.Reading.{◌>>=◌, of_kind, keys_of, version_of, list_of, numbers_from, parameters_of, noise_of, noises_from, noises_of, unknown_of, unknowns_from, rights_from, unknown_part, document_of, names_of}
 use Rattle.equation_document.specs.declared.fault.Section.TheVariants.{Scaling, Noise, Unknown}
 use Rattle.equation_document.specs.declared.fault.Entry.TheVariants.{File, Whole}
-use Rattle.equation_document.specs.declared.tables.KeySet.TheVariants as keys
+use Rattle.equation_document.specs.declared.entries.KeySet.TheVariants as keys
 use Rattle.equation_document.specs.declared.document.Document.{Document}
 use Rattle.equation_document.specs.declared.document.NoiseEntry.{NoiseEntry}
 use Rattle.equation_document.specs.declared.document.UnknownEntry.{UnknownEntry}

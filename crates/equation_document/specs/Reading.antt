@@ -35,8 +35,8 @@ use Rattle.equation_document.specs.declared.fault.Reason.TheVariants as reasons
 use Rattle.equation_document.specs.declared.fault.Fault.{Fault}
 use Rattle.equation_document.specs.declared.fault.Fault.TheVariants.{Malformed}
 use Rattle.equation_document.specs.declared.names.Names.{Names}
-use Rattle.equation_document.specs.declared.tables.KeySet.{KeySet}
-use Rattle.equation_document.specs.declared.tables.KeySet.TheVariants as keys
+use Rattle.equation_document.specs.declared.entries.KeySet.{KeySet}
+use Rattle.equation_document.specs.declared.entries.KeySet.TheVariants as keys
 use Rattle.equation_document.specs.DegreeEntry.{is_positive, is_standard}
 use Rattle.equation_document.specs.Names.{stands_in, are_known, have_one_noise}
 

@@ -36,32 +36,54 @@ pub enum Entry {
 /// What is wrong with an entry.
 #[derive(Clone, Copy, Debug, PartialEq, Eq)]
 pub enum Reason {
+    /// It is not there.
     Missing,
+    /// It is of another kind: no whole number, text, list or table, where one is wanted.
     Kind,
+    /// It is of the right kind, and no value that may stand here.
     Value,
+    /// It has a key that no such table has.
     Key,
+    /// It is no name.
     Name,
+    /// It is a name that stands earlier in the file.
     Repeated,
+    /// It is no degree text.
     Degree,
+    /// It is no right side: outside the grammar, with a name that is not there, or with a derivative of a noise or a parameter.
     Polynomial,
+    /// A term has more than one noise, counted with powers.
     Noise,
 }
 
 /// What is limited.
 #[derive(Clone, Copy, Debug, PartialEq, Eq)]
 pub enum Which {
+    /// The bytes of the file: 65,536.
     Bytes,
+    /// The entries of the scaling: 5.
     Dimensions,
+    /// An entry of the scaling: 10.
     Scaling,
+    /// The parameters: 8.
     Parameters,
+    /// The noises: 8.
     Noises,
+    /// The unknowns: 8.
     Unknowns,
+    /// A number that is written in a degree, a regularity or a right side: 1,000,000.
     Number,
+    /// The size of the standard part or of the k part of a degree or a regularity, rounded up: 20.
     Degree,
+    /// The least common denominator of all degrees and regularities: 1,000,000.
     Unit,
+    /// The terms of a right side, as they are written: 64.
     Terms,
+    /// The factors of a term, counted with their powers: 24.
     Factors,
+    /// An entry of a derivative: 8.
     Derivative,
+    /// The least common denominator of all coefficients, as they are written: 1,000,000.
     Denominator,
 }
 

@@ -5,10 +5,12 @@ mod bounds;
 mod degree_entry;
 mod denominator;
 mod document;
+mod entries;
 mod fault;
 mod limits;
 mod names;
 mod read;
+mod rights;
 mod tables;
 mod terms;
 

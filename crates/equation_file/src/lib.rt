@@ -17,4 +17,6 @@ pub use read::read_equation;
 pub use refusal::FileRefusal;
 
 #[cfg(test)]
+mod systems;
+#[cfg(test)]
 mod tests;

@@ -1,7 +1,7 @@
 use Rattle.std.proofs.Common.{◌≡◌, ◌+◌, [], drop}
 use Rattle.toml.specs.View.{items_view}
 use Rattle.equation_document.specs.Reading.{rights_from}
-use Rattle.equation_document.proofs.tables.rights_from.Given as goal
+use Rattle.equation_document.proofs.rights.rights_from.Given as goal
 
 -- what is read from here on, after what was found, is what is read of the whole list
 abbrev pub invariant-loop-i : goal.invariant-loop-i

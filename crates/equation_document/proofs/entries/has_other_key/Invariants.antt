@@ -1,7 +1,7 @@
 use Rattle.std.proofs.Common.{◌≡◌}
 use Rattle.toml.specs.View.{members_view, table_view}
 use Rattle.equation_document.specs.Reading.{has_other_key}
-use Rattle.equation_document.proofs.tables.has_other_key.Given as goal
+use Rattle.equation_document.proofs.entries.has_other_key.Given as goal
 
 -- there is another key where there is one among those that are left
 abbrev pub invariant-loop-key : goal.invariant-loop-key

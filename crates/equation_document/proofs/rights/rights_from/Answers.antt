@@ -2,7 +2,7 @@ use Rattle.std.proofs.Common.{◌+◌, refl, sym, ◌∙◌, ap}
 use Rattle.std.proofs.lemmas.Result.{err_from_is_err_and}
 use Rattle.equation_document.specs.Reading.{rights_from}
 use Rattle.equation_document.proofs.ItemSteps.{items_at, items_over, fails_too}
-use Rattle.equation_document.proofs.tables.rights_from.Goals as goal
+use Rattle.equation_document.proofs.rights.rights_from.Goals as goal
 
 pub returns-in_err-terms : goal.returns-in_err-terms
 unfolding rights_from
