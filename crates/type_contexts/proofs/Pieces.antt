@@ -1,0 +1,38 @@
+-- Texts put together from pieces.
+use Rattle.std.proofs.Common.{◌≡◌, ℕ, ◌+◌, ◌<◌, List, [], ◌∷◌, ◌++◌, map, take, get_or, length, decimal, append_assoc, refl, ap, sym, subst, ◌∙◌}
+use Rattle.std.specs.List.{AllZip, join_with_byte}
+use Rattle.std.proofs.lemmas.List.{take_more, map_push}
+
+pub noise_pieces : (o name t g : List ℕ) → (((((o ++ (110 ∷ 111 ∷ 105 ∷ 115 ∷ 101 ∷ 32 ∷ [])) ++ name) ++ 32 ∷ []) ++ t) ++ 32 ∷ []) ++ g ≡ o ++ join_with_byte 32 ((110 ∷ 111 ∷ 105 ∷ 115 ∷ 101 ∷ []) ∷ name ∷ t ∷ g ∷ [])
+noise_pieces o name t g = simp append_assoc
+
+pub kernel_pieces : (o name t : List ℕ) → ((o ++ (107 ∷ 101 ∷ 114 ∷ 110 ∷ 101 ∷ 108 ∷ 32 ∷ [])) ++ name) ++ 32 ∷ [] ++ t ≡ o ++ join_with_byte 32 ((107 ∷ 101 ∷ 114 ∷ 110 ∷ 101 ∷ 108 ∷ []) ∷ name ∷ t ∷ [])
+kernel_pieces o name t = simp append_assoc
+
+join-push : (c : ℕ) (first : List ℕ) (pieces : List (List ℕ)) (piece : List ℕ) → join_with_byte c (first ∷ (pieces ++ piece ∷ [])) ≡ (join_with_byte c (first ∷ pieces) ++ c ∷ []) ++ piece
+join-push c first [] piece = sym (append_assoc first (c ∷ []) piece)
+join-push c first (p ∷ pieces) piece =
+    ap (λ t. first ++ c ∷ t) (join-push c p pieces piece) ∙ sym (append_assoc (first ++ c ∷ join_with_byte c (p ∷ pieces)) (c ∷ []) piece ∙ append_assoc first (c ∷ join_with_byte c (p ∷ pieces)) (c ∷ piece) ∙ ap (λ t. first ++ c ∷ t) (sym (append_assoc (join_with_byte c (p ∷ pieces)) (c ∷ []) piece)))
+
+-- one more piece behind its byte
+pub pieces_more : (c : ℕ) (o now marked new : List ℕ) (pieces : List (List ℕ)) (piece : List ℕ) → now ≡ join_with_byte c (o ∷ pieces) → marked ≡ now ++ c ∷ [] → new ≡ marked ++ piece → new ≡ join_with_byte c (o ∷ (pieces ++ piece ∷ []))
+pieces_more c o now marked new pieces piece told mark put = put ∙ ap (λ t. t ++ piece) (mark ∙ ap (λ t. t ++ c ∷ []) told) ∙ sym (join-push c o pieces piece)
+
+pub numbers_more : (o now marked new : List ℕ) (xs : List ℕ) (i : ℕ) → i < length xs → now ≡ join_with_byte 44 (o ∷ map decimal (take i xs)) → marked ≡ now ++ 44 ∷ [] → new ≡ marked ++ decimal (get_or xs i 0) → new ≡ join_with_byte 44 (o ∷ map decimal (take (i + 1) xs))
+numbers_more o now marked new xs i lt told mark put =
+    pieces_more 44 o now marked new (map decimal (take i xs)) (decimal (get_or xs i 0)) told mark put
+    ∙ ap (λ ps. join_with_byte 44 (o ∷ ps)) (sym (map_push decimal (take i xs) (get_or xs i 0)) ∙ ap (map decimal) (sym (take_more xs i 0 lt)))
+
+pub join_behind : (c : ℕ) (o first : List ℕ) (pieces : List (List ℕ)) → join_with_byte c ((o ++ first) ∷ pieces) ≡ o ++ join_with_byte c (first ∷ pieces)
+join_behind c o first [] = refl
+join_behind c o first (p ∷ pieces) = append_assoc o first (c ∷ join_with_byte c (p ∷ pieces))
+
+pub zip_push : {A B : Type 0} (R : A → B → Type 0) (xs : List A) (ys : List B) (x : A) (y : B) → AllZip R xs ys → R x y → AllZip R (xs ++ x ∷ []) (ys ++ y ∷ [])
+zip_push R [] [] x y h r = (r, tt)
+zip_push R [] (z ∷ ys) x y h r = absurd h
+zip_push R (z ∷ xs) [] x y h r = absurd h
+zip_push R (z ∷ xs) (w ∷ ys) x y h r = (h.0, zip_push R xs ys x y h.1 r)
+
+-- one more of both
+pub zip_more : {A B : Type 0} (R : A → B → Type 0) (xs : List A) (ys : List B) (i : ℕ) (x : A) (y : B) → i < length xs → x ≡ get_or xs i x → AllZip R (take i xs) ys → R x y → AllZip R (take (i + 1) xs) (ys ++ y ∷ [])
+zip_more R xs ys i x y lt is told one = subst (λ zs. AllZip R zs (ys ++ y ∷ [])) (ap (λ z. take i xs ++ z ∷ []) is ∙ sym (take_more xs i x lt)) (zip_push R (take i xs) ys x y told one)
