@@ -1,1 +1,3 @@
 pub mod Context
+pub mod Different
+pub mod Same
