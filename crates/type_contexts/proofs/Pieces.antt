@@ -1,6 +1,6 @@
 -- Texts put together from pieces.
-use Rattle.std.proofs.Common.{◌≡◌, ℕ, ◌+◌, ◌<◌, List, [], ◌∷◌, ◌++◌, map, take, get_or, length, decimal, append_assoc, refl, ap, sym, subst, ◌∙◌}
-use Rattle.std.specs.List.{AllZip, join_with_byte}
+use Rattle.std.proofs.Common.{◌≡◌, ℕ, zero, suc, ◌+◌, ◌<◌, List, [], ◌∷◌, ◌++◌, map, take, get_or, length, decimal, append_assoc, arith, ap, sym, subst, ◌∙◌}
+use Rattle.std.specs.List.{AllByRecursion, AllZip, join_with_byte}
 use Rattle.std.proofs.lemmas.List.{take_more, map_push}
 
 pub noise_pieces : (o name t g : List ℕ) → (((((o ++ (110 ∷ 111 ∷ 105 ∷ 115 ∷ 101 ∷ 32 ∷ [])) ++ name) ++ 32 ∷ []) ++ t) ++ 32 ∷ []) ++ g ≡ o ++ join_with_byte 32 ((110 ∷ 111 ∷ 105 ∷ 115 ∷ 101 ∷ []) ∷ name ∷ t ∷ g ∷ [])
@@ -23,16 +23,23 @@ numbers_more o now marked new xs i lt told mark put =
     pieces_more 44 o now marked new (map decimal (take i xs)) (decimal (get_or xs i 0)) told mark put
     ∙ ap (λ ps. join_with_byte 44 (o ∷ ps)) (sym (map_push decimal (take i xs) (get_or xs i 0)) ∙ ap (map decimal) (sym (take_more xs i 0 lt)))
 
-pub join_behind : (c : ℕ) (o first : List ℕ) (pieces : List (List ℕ)) → join_with_byte c ((o ++ first) ∷ pieces) ≡ o ++ join_with_byte c (first ∷ pieces)
-join_behind c o first [] = refl
-join_behind c o first (p ∷ pieces) = append_assoc o first (c ∷ join_with_byte c (p ∷ pieces))
-
-pub zip_push : {A B : Type 0} (R : A → B → Type 0) (xs : List A) (ys : List B) (x : A) (y : B) → AllZip R xs ys → R x y → AllZip R (xs ++ x ∷ []) (ys ++ y ∷ [])
+zip_push : {A B : Type 0} (R : A → B → Type 0) (xs : List A) (ys : List B) (x : A) (y : B) → AllZip R xs ys → R x y → AllZip R (xs ++ x ∷ []) (ys ++ y ∷ [])
 zip_push R [] [] x y h r = (r, tt)
 zip_push R [] (z ∷ ys) x y h r = absurd h
 zip_push R (z ∷ xs) [] x y h r = absurd h
 zip_push R (z ∷ xs) (w ∷ ys) x y h r = (h.0, zip_push R xs ys x y h.1 r)
 
 -- one more of both
-pub zip_more : {A B : Type 0} (R : A → B → Type 0) (xs : List A) (ys : List B) (i : ℕ) (x : A) (y : B) → i < length xs → x ≡ get_or xs i x → AllZip R (take i xs) ys → R x y → AllZip R (take (i + 1) xs) (ys ++ y ∷ [])
-zip_more R xs ys i x y lt is told one = subst (λ zs. AllZip R zs (ys ++ y ∷ [])) (ap (λ z. take i xs ++ z ∷ []) is ∙ sym (take_more xs i x lt)) (zip_push R (take i xs) ys x y told one)
+pub zip_more : {A B : Type 0} (R : A → B → Type 0) (xs : List A) (ys : List B) (i : ℕ) (d : A) (y : B) → i < length xs → AllZip R (take i xs) ys → R (get_or xs i d) y → AllZip R (take (i + 1) xs) (ys ++ y ∷ [])
+zip_more R xs ys i d y lt told one = subst (λ zs. AllZip R zs (ys ++ y ∷ [])) (sym (take_more xs i d lt)) (zip_push R (take i xs) ys (get_or xs i d) y told one)
+
+pub zip_map : {A B C : Type 0} (R : B → C → Type 0) (f : A → B) (xs : List A) (ys : List C) → AllZip (λ x y. R (f x) y) xs ys → AllZip R (map f xs) ys
+zip_map R f [] [] h = tt
+zip_map R f [] (y ∷ ys) h = absurd h
+zip_map R f (x ∷ xs) [] h = absurd h
+zip_map R f (x ∷ xs) (y ∷ ys) h = (h.0, zip_map R f xs ys h.1)
+
+pub all_map_at : {A B : Type 0} (P : B → Type 0) (f : A → B) (xs : List A) (i : ℕ) (d : A) → i < length xs → AllByRecursion P (map f xs) → P (f (get_or xs i d))
+all_map_at P f [] i d lt h = absurd (omega (arith, lt))
+all_map_at P f (x ∷ xs) zero d lt h = h.0
+all_map_at P f (x ∷ xs) (suc i) d lt h = all_map_at P f xs i d (omega (arith, lt)) h.1

@@ -1,3 +1,5 @@
 pub mod Context
 pub mod Different
+pub mod Draft
+pub mod Numbers
 pub mod Same

@@ -1,7 +1,13 @@
 //! The types of an equation as a text, under which constants are kept: printed, and read back.
 #![tactic(auto)]
 
+mod build;
+mod draft;
 mod file_types;
 mod print;
+mod refusal;
+mod scaling;
 
+pub use file_types::are_file_types;
 pub use print::context_text;
+pub use refusal::ContextRefusal;

@@ -1,0 +1,92 @@
+// What is read of a type, before the common denominator is known.
+ghost use Rattle.std.specs.Prelude.{◌≡◌, ◌==◌, map, IfOk, IfErr, IfSome, IsSome, option_map};
+ghost use Rattle.std.specs.List.{AllByRecursion, AllZip, slice_split};
+ghost use Rattle.type_contexts.specs.declared.refusal.ContextRefusal.TheVariants.{ContextText};
+ghost use Rattle.type_contexts.specs.Draft.{seen, words_of, IsGood, IsDraftOf, IsGoodPiece, IsPieceDraft};
+
+use crate::refusal::ContextRefusal;
+use degree_numbers::{Kind, Name, WrittenDegree, read_degree};
+use std::alloc::{AllocError, Global};
+
+/// The parts of a text between the places of a byte.
+pub fn parts_of(alloc: Global, mark: u8, text: &[u8]) -> Result<Vec<&[u8]>, AllocError>
+    ensures { IfOk result (λ v. map (λ s. s.now) v.items ≡ slice_split (λ b. b == mark) text.now) }
+{
+    text.split(|b| *b == mark).collect(alloc)
+}
+
+/// The words that are written of a type. A kernel has no group, and its name stands there.
+#[derive(Clone, Copy, Debug)]
+pub struct Words<'a> {
+    pub kind: Kind,
+    pub name: &'a [u8],
+    pub degree: &'a [u8],
+    pub group: &'a [u8],
+}
+
+/// What is read of a type. A kernel has no group, and its name stands there.
+#[derive(Clone, Copy, Debug, PartialEq, Eq)]
+pub struct Draft {
+    pub kind: Kind,
+    pub name: Name,
+    pub degree: WrittenDegree,
+    pub group: Name,
+}
+
+fn words_of<'a>(parts: &[&'a [u8]]) -> Option<Words<'a>>
+    ensures { option_map seen result ≡ words_of (map (λ s. s.now) parts.now) }
+{
+    match parts {
+        [_, name, degree, group] => Some(Words {
+            kind: Kind::Noise,
+            name,
+            degree,
+            group,
+        }),
+        [_, name, degree] => Some(Words {
+            kind: Kind::Kernel,
+            name,
+            degree,
+            group: name,
+        }),
+        _ => None,
+    }
+}
+
+fn draft_of(words: &Words) -> Option<Draft>
+    ensures some { IfSome result (IsDraftOf (seen words.now)) }
+    ensures none { IsGood (seen words.now) → IsSome result }
+{
+    let name = Name::new(words.name)?;
+    let degree = read_degree(words.degree).ok()?;
+    let group = Name::new(words.group)?;
+    Some(Draft {
+        kind: words.kind,
+        name,
+        degree,
+        group,
+    })
+}
+
+fn piece_draft(alloc: Global, piece: &[u8]) -> Result<Draft, ContextRefusal>
+    ensures ok { IfOk result (IsPieceDraft piece.now) }
+    ensures err { IfErr result (λ e. e ≡ ContextText → IsGoodPiece piece.now → ⊥) }
+{
+    let parts = parts_of(alloc, b' ', piece)?;
+    let Some(words) = words_of(parts.as_slice()) else {
+        return Err(ContextRefusal::ContextText);
+    };
+    draft_of(&words).ok_or(ContextRefusal::ContextText)
+}
+
+/// What is read of the pieces of a context behind the first.
+pub fn drafts_of(alloc: Global, pieces: &[&[u8]]) -> Result<Vec<Draft>, ContextRefusal>
+    ensures ok { IfOk result (λ v. AllZip (λ s d. IsPieceDraft s.now d) pieces.now v.items) }
+    ensures err { IfErr result (λ e. e ≡ ContextText → AllByRecursion IsGoodPiece (map (λ s. s.now) pieces.now) → ⊥) }
+{
+    let mut drafts = Vec::new(alloc);
+    for piece in pieces {
+        drafts.push(piece_draft(alloc, piece)?)?;
+    }
+    Ok(drafts)
+}

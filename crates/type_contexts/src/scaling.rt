@@ -1,0 +1,57 @@
+// The scaling that is read.
+ghost use Rattle.std.specs.Prelude.{◌≡◌, ◌≤◌, [], ◌∷◌, ℕ, List, Some, decimal, length, map, take, slice_index, IfErr, IfOk};
+ghost use Rattle.std.specs.List.{AllByRecursion, join_with_byte};
+ghost use Rattle.degree_numbers.specs.Types.{IsScaling};
+ghost use Rattle.type_contexts.specs.declared.refusal.ContextRefusal.TheVariants.{ContextText};
+
+use crate::draft::parts_of;
+use crate::refusal::ContextRefusal;
+use std::alloc::Global;
+use text_parts::number_of;
+
+const LARGEST_SCALING: u64 = 10;
+
+const MOST_DIMENSIONS: usize = 5;
+
+fn small_number(part: &[u8]) -> Option<u32>
+    ensures { (n : ℕ) → n ≤ 10 → part.now ≡ decimal n → result ≡ Some n }
+{
+    let (number, _) = number_of(part)?;
+    if number > LARGEST_SCALING {
+        return None;
+    }
+    Some(number as u32)
+}
+
+// The whole number of a part, and 0 behind the last part.
+fn entry_at(parts: &[&[u8]], i: usize) -> Option<u32>
+    ensures { (entries : List ℕ) → map (λ s. s.now) parts.now ≡ map decimal entries → AllByRecursion (λ n. n ≤ 10) entries → result ≡ Some (slice_index entries i) }
+{
+    if i < parts.len() {
+        small_number(parts[i])
+    } else {
+        Some(0)
+    }
+}
+
+fn entries_of(parts: &[&[u8]]) -> Option<[u32; 5]>
+    ensures { (entries : List ℕ) → map (λ s. s.now) parts.now ≡ map decimal entries → AllByRecursion (λ n. n ≤ 10) entries → result ≡ Some (slice_index entries 0 ∷ slice_index entries 1 ∷ slice_index entries 2 ∷ slice_index entries 3 ∷ slice_index entries 4 ∷ []) }
+{
+    Some([
+        entry_at(parts, 0)?,
+        entry_at(parts, 1)?,
+        entry_at(parts, 2)?,
+        entry_at(parts, 3)?,
+        entry_at(parts, 4)?,
+    ])
+}
+
+fn directions_of(parts: &[&[u8]]) -> Option<(u8, [u32; 5])>
+    ensures { (dims : ℕ) (scaling : List ℕ) → IsScaling dims scaling → map (λ s. s.now) parts.now ≡ map decimal (take dims scaling) → result ≡ Some (dims, scaling) }
+{
+    if parts.len() > MOST_DIMENSIONS {
+        return None;
+    }
+    let scaling = entries_of(parts)?;
+    Some((parts.len() as u8, scaling))
+}
