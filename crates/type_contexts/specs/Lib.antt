@@ -3,3 +3,4 @@ pub mod Different
 pub mod Draft
 pub mod Numbers
 pub mod Same
+pub mod Scaling

@@ -1,8 +1,11 @@
 // The scaling that is read.
-ghost use Rattle.std.specs.Prelude.{◌≡◌, ◌≤◌, [], ◌∷◌, ℕ, List, Some, decimal, length, map, take, slice_index, IfErr, IfOk};
-ghost use Rattle.std.specs.List.{AllByRecursion, join_with_byte};
+ghost use Rattle.std.specs.Prelude.{◌≡◌, ◌≤◌, [], ◌∷◌, ℕ, List, Some, decimal, length, map, option_map, take, slice_index, IfErr, IfOk};
+ghost use Rattle.std.specs.List.{AllByRecursion};
 ghost use Rattle.degree_numbers.specs.Types.{IsScaling};
-ghost use Rattle.type_contexts.specs.declared.refusal.ContextRefusal.TheVariants.{ContextText};
+ghost use Rattle.degree_numbers.specs.declared.types.Types.{Types};
+ghost use Rattle.type_contexts.specs.declared.refusal.ContextRefusal.TheVariants.{Memory};
+ghost use Rattle.type_contexts.specs.Context.{scaling_text};
+ghost use Rattle.type_contexts.specs.Scaling.{second_of};
 
 use crate::draft::parts_of;
 use crate::refusal::ContextRefusal;
@@ -54,4 +57,26 @@ fn directions_of(parts: &[&[u8]]) -> Option<(u8, [u32; 5])>
     }
     let scaling = entries_of(parts)?;
     Some((parts.len() as u8, scaling))
+}
+
+fn second_of<'a>(words: &[&'a [u8]]) -> Option<&'a [u8]>
+    ensures { option_map (λ s. s.now) result ≡ second_of (map (λ s. s.now) words.now) }
+{
+    match words {
+        [_, second] => Some(second),
+        _ => None,
+    }
+}
+
+/// The number of directions and the scaling that the first piece of a context says.
+pub fn scaling_of(alloc: Global, head: &[u8]) -> Result<(u8, [u32; 5]), ContextRefusal>
+    ensures ok { (ty : Types) → IsScaling ty.dims ty.scaling → head.now ≡ scaling_text ty → IfOk result (λ r. r ≡ (ty.dims, ty.scaling)) }
+    ensures err { (ty : Types) → IsScaling ty.dims ty.scaling → head.now ≡ scaling_text ty → IfErr result (λ e. e ≡ Memory) }
+{
+    let words = parts_of(alloc, b' ', head)?;
+    let Some(entries) = second_of(words.as_slice()) else {
+        return Err(ContextRefusal::ContextText);
+    };
+    let parts = parts_of(alloc, b',', entries)?;
+    directions_of(parts.as_slice()).ok_or(ContextRefusal::ContextText)
 }
