@@ -37,7 +37,7 @@ pub record IsEntryDraft (den : ℕ) (groups : List (List ℕ)) (e : TypeEntry) (
   pub group : d.group ≡ group_by e.kind groups e
   pub degree : IsSameDegree e.degree den d.degree
 
-degree_lacks : (c den : ℕ) (d : Degree) (text : List ℕ) → IsOther c → 0 < den → IsFractionInRange den d.a → IsFractionInRange den d.b → IsDegreeText d den text → Lacks c text
+pub degree_lacks : (c den : ℕ) (d : Degree) (text : List ℕ) → IsOther c → 0 < den → IsFractionInRange den d.a → IsFractionInRange den d.b → IsDegreeText d den text → Lacks c text
 degree_lacks c den d text other above a b h =
     let same_a = lowest_one (unsigned_abs d.a) den a.0 a.1 h.0.num h.0.den above a.2 h.2.value in
     let same_b = lowest_one (unsigned_abs d.b) den b.0 b.1 h.1.num h.1.den above b.2 h.3.value in

@@ -1,6 +1,6 @@
 pub mod Context
 pub mod Different
 pub mod Draft
-pub mod Numbers
+pub mod Made
 pub mod Same
 pub mod Scaling

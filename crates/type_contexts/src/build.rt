@@ -3,7 +3,7 @@ ghost use Rattle.std.specs.Prelude.{◌≡◌, ◌≤◌, ◌<ℤ◌, ◌≤ℤ�
 ghost use Rattle.std.specs.List.{AllByRecursion, AllZip};
 ghost use Rattle.std.specs.Str.{bytes_eq};
 ghost use Rattle.degree_numbers.specs.Units.{IsWholeIn, fractions, AreUnits, IsPast};
-ghost use Rattle.type_contexts.specs.Numbers.{place_of, stands_in, with_group, groups_of, number_by, IsEntryOf};
+ghost use Rattle.type_contexts.specs.Made.{place_of, stands_in, with_group, groups_of, number_by, IsEntryOf};
 
 use crate::draft::Draft;
 use degree_numbers::{Kind, Name, TypeEntry, Units, WrittenDegree, in_units};

@@ -1,7 +1,7 @@
 use Rattle.std.proofs.Common.{◌+◌, take, subst, sym}
 use Rattle.std.specs.List.{AllZip}
 use Rattle.degree_numbers.specs.Units.{IsWholeIn}
-use Rattle.type_contexts.specs.Numbers.{IsEntryOf}
+use Rattle.type_contexts.specs.Made.{IsEntryOf}
 use Rattle.type_contexts.proofs.Pieces.{zip_more, all_map_at}
 use Rattle.type_contexts.proofs.build.entries_of.Goals as goal
 

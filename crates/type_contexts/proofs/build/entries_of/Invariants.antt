@@ -1,6 +1,6 @@
 use Rattle.std.proofs.Common.{take}
 use Rattle.std.specs.List.{AllZip}
-use Rattle.type_contexts.specs.Numbers.{IsEntryOf}
+use Rattle.type_contexts.specs.Made.{IsEntryOf}
 use Rattle.type_contexts.proofs.build.entries_of.Given as goal
 
 abbrev pub invariant-loop-draft : goal.invariant-loop-draft

@@ -1,5 +1,5 @@
 use Rattle.std.proofs.Common.{◌≡◌, ◌≤◌, take, length}
-use Rattle.type_contexts.specs.Numbers.{groups_of}
+use Rattle.type_contexts.specs.Made.{groups_of}
 use Rattle.type_contexts.proofs.build.groups_of.Given as goal
 
 abbrev pub invariant-loop-draft : goal.invariant-loop-draft

@@ -1,15 +1,18 @@
--- Group names, and the number that a name has among them.
+-- The types that are read: group names with their numbers, and degrees in units.
 --   place_of names name == the place of the name in the list, from 0; the length of the list where it is not there
 --   stands_in names name == the name is there
 --   with_group groups d == the groups, and behind them the group of d where it is a noise's that is not there
 --   groups_of drafts == the groups, in the order of their first noise
 --   IsEntryOf den groups d e == e is the type that is read as d, in units of one over den
-use Rattle.std.specs.Prelude.{◌≡◌, ℕ, nat_lt, Bool, not, List, [], ◌∷◌, ◌++◌, length, if◌then◌else◌, fold, ℤ, ◌*ℤ◌}
-use Rattle.std.specs.List.{prefix_len}
+--   AreMadeOf dims scaling drafts ty == ty are the types that are read as drafts, with this scaling, in units of one over the least common denominator of the degrees
+use Rattle.std.specs.Prelude.{◌≡◌, ℕ, nat_lt, Bool, not, List, [], ◌∷◌, ◌++◌, length, if◌then◌else◌, fold, map, ℤ, ◌*ℤ◌}
+use Rattle.std.specs.List.{AllZip, prefix_len}
 use Rattle.std.specs.Str.{bytes_eq}
 use Rattle.degree_numbers.specs.declared.types.Kind.{Kind}
 use Rattle.degree_numbers.specs.declared.types.Kind.TheVariants.{Noise, Kernel}
 use Rattle.degree_numbers.specs.declared.types.TypeEntry.{TypeEntry}
+use Rattle.degree_numbers.specs.declared.types.Types.{Types}
+use Rattle.degree_numbers.specs.Units.{fractions, AreUnits}
 use Rattle.type_contexts.specs.declared.draft.Draft.{Draft}
 
 abbrev pub place_of : List (List ℕ) → List ℕ → ℕ
@@ -38,3 +41,10 @@ pub record IsEntryOf (den : ℤ) (groups : List (List ℕ)) (d : Draft) (e : Typ
   pub group : e.group ≡ number_by d.kind groups d.group
   pub a : e.degree.a *ℤ d.degree.a_den ≡ d.degree.a_num *ℤ den
   pub b : e.degree.b *ℤ d.degree.b_den ≡ d.degree.b_num *ℤ den
+
+pub record AreMadeOf (dims : ℕ) (scaling : List ℕ) (drafts : List Draft) (ty : Types) : Type 0 where
+  pub dims_are : ty.dims ≡ dims
+  pub scaling_is : ty.scaling ≡ scaling
+  pub units : AreUnits (fractions (map (λ d. d.degree) drafts)) ty.units.den
+  pub groups : ty.groups ≡ groups_of drafts
+  pub list : AllZip (IsEntryOf ty.units.den ty.groups) drafts ty.list
