@@ -124,7 +124,7 @@ later [] (suc i) = refl
 later (x ∷ xs) zero = refl
 later (x ∷ xs) (suc i) = later xs i
 
-whole_rest : {A : Type 0} (xs : List A) (i : ℕ) → take (length xs - i) (drop i xs) ≡ drop i xs
+pub whole_rest : {A : Type 0} (xs : List A) (i : ℕ) → take (length xs - i) (drop i xs) ≡ drop i xs
 whole_rest xs i = ap (λ n. take n (drop i xs)) (sym (length-drop i xs)) ∙ take-length (drop i xs)
 
 -- names that differ, with one more in front

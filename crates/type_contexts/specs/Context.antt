@@ -3,6 +3,7 @@
 --   entry_words groups e degree == the words that are written of a type: `noise`, its name, its degree and its group, or `kernel`, its name and its degree
 --   IsEntryText den groups e text == text is the words of the type e, joined by spaces; its degree is in units of one over den
 --   scaling_text ty == `scaling`, a space, and the entries of the scaling, joined by commas
+--   ArePieces ty pieces == the pieces are the text of the scaling and those of the types, in their order
 --   IsContextText ty text == text is that of the scaling and those of the types in their order, joined by bars
 use Rattle.std.specs.Prelude.{◌≡◌, ℕ, List, [], ◌∷◌, codes, decimal, map, take, slice_get, unwrap_or, unsigned_abs}
 use Rattle.std.specs.List.{AllZip, join_with_byte}
@@ -36,3 +37,6 @@ scaling_text ty = join_with_byte 32 (codes "scaling" ∷ join_with_byte 44 (map 
 
 abbrev pub IsContextText : Types → List ℕ → Type 0
 IsContextText ty text = (pieces : List (List ℕ)) × AllZip (IsEntryText (unsigned_abs ty.units.den) ty.groups) ty.list pieces × (text ≡ join_with_byte 124 (scaling_text ty ∷ pieces))
+
+abbrev pub ArePieces : Types → List (List ℕ) → Type 0
+ArePieces ty pieces = (others : List (List ℕ)) × AllZip (IsEntryText (unsigned_abs ty.units.den) ty.groups) ty.list others × (pieces ≡ scaling_text ty ∷ others)

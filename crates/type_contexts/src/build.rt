@@ -3,10 +3,14 @@ ghost use Rattle.std.specs.Prelude.{◌≡◌, ◌≤◌, ◌<ℤ◌, ◌≤ℤ�
 ghost use Rattle.std.specs.List.{AllByRecursion, AllZip};
 ghost use Rattle.std.specs.Str.{bytes_eq};
 ghost use Rattle.degree_numbers.specs.Units.{IsWholeIn, fractions, AreUnits, IsPast};
-ghost use Rattle.type_contexts.specs.Made.{place_of, stands_in, with_group, groups_of, number_by, IsEntryOf};
+ghost use Rattle.type_contexts.specs.Made.{place_of, stands_in, with_group, groups_of, number_by, IsEntryOf, AreMadeOf};
+ghost use Rattle.type_contexts.specs.declared.refusal.ContextRefusal.TheVariants.{ContextText};
 
 use crate::draft::Draft;
-use degree_numbers::{Kind, Name, TypeEntry, Units, WrittenDegree, in_units};
+use crate::refusal::ContextRefusal;
+use degree_numbers::{
+    Kind, Name, TypeEntry, Types, Units, WrittenDegree, in_units, join_units,
+};
 use sqlite_items::Items;
 use std::alloc::{AllocError, Global};
 
@@ -39,8 +43,8 @@ fn add_group(groups: &mut Items<Name>, draft: &Draft) -> Result<(), AllocError>
     Ok(())
 }
 
-/// The names of the groups, in the order of their first noise.
-pub fn groups_of(alloc: Global, drafts: &[Draft]) -> Result<Items<Name>, AllocError>
+// The names of the groups, in the order of their first noise.
+fn groups_of(alloc: Global, drafts: &[Draft]) -> Result<Items<Name>, AllocError>
     ensures value { IfOk result (λ v. v ≡ groups_of drafts.now) }
     ensures few { IfOk result (λ v. length v ≤ length drafts.now) }
 {
@@ -51,8 +55,8 @@ pub fn groups_of(alloc: Global, drafts: &[Draft]) -> Result<Items<Name>, AllocEr
     Ok(groups)
 }
 
-/// The degrees that are read.
-pub fn degrees_of(alloc: Global, drafts: &[Draft]) -> Result<Vec<WrittenDegree>, AllocError>
+// The degrees that are read.
+fn degrees_of(alloc: Global, drafts: &[Draft]) -> Result<Vec<WrittenDegree>, AllocError>
     ensures { IfOk result (λ v. v.items ≡ map (λ d. d.degree) drafts.now) }
 {
     drafts.iter().map(|d| d.degree).collect(alloc)
@@ -83,8 +87,8 @@ fn entry_of(units: Units, groups: &[Name], draft: &Draft) -> TypeEntry
     }
 }
 
-/// The types that are read.
-pub fn entries_of(
+// The types that are read.
+fn entries_of(
     alloc: Global,
     units: Units,
     groups: &[Name],
@@ -101,4 +105,31 @@ pub fn entries_of(
         entries.push(entry_of(units, groups, draft))?;
     }
     Ok(entries)
+}
+
+/// The types that are read, with this scaling, in units of one over the least common denominator of their degrees. Refusal: `ContextText` only where that passes
+/// 1,000,000.
+pub fn types_of(
+    alloc: Global,
+    dims: u8,
+    scaling: [u32; 5],
+    drafts: &[Draft],
+) -> Result<Types, ContextRefusal>
+    requires { length drafts.now ≤ 255 }
+    ensures ok { IfOk result (λ ty. AreMadeOf dims scaling drafts.now ty) }
+    ensures err { IfErr result (λ e. e ≡ ContextText → IsPast (fractions (map (λ d. d.degree) drafts.now))) }
+{
+    let degrees = degrees_of(alloc, drafts)?;
+    let Ok(units) = join_units(degrees.as_slice()) else {
+        return Err(ContextRefusal::ContextText);
+    };
+    let groups = groups_of(alloc, drafts)?;
+    let list = entries_of(alloc, units, groups.as_slice(), drafts)?;
+    Ok(Types {
+        dims,
+        scaling,
+        units,
+        list,
+        groups,
+    })
 }

@@ -5,9 +5,11 @@ mod build;
 mod draft;
 mod file_types;
 mod print;
+mod read;
 mod refusal;
 mod scaling;
 
 pub use file_types::are_file_types;
 pub use print::context_text;
+pub use read::read_context;
 pub use refusal::ContextRefusal;
