@@ -1,20 +1,18 @@
 -- The degree that is read of the text of a degree.
-use Rattle.std.proofs.Common.{◌≡◌, ℕ, zero, suc, ◌*◌, ◌/◌, ◌<◌, ◌≤◌, ◌^◌, Bool, ℤ, pos, unsigned_abs, List, Option, Some, None, Ok, arith, refl, ap, sym, subst, ◌∙◌}
+use Rattle.std.proofs.Common.{◌≡◌, ℕ, ◌*◌, ◌/◌, ◌<◌, ℤ, unsigned_abs, List, Option, Some, None, Ok, arith, ap, sym, subst, ◌∙◌}
 use Rattle.std.specs.Prelude.{MatchOption, Result, Err, IsOkAnd}
 use Rattle.std.specs.Int.{is_negative}
 use Rattle.std.proofs.Math.Nat.{mul-div_cancel}
-use Rattle.std.proofs.lemmas.Int.{ints}
 use Rattle.degree_numbers.specs.declared.degree.Degree.{Degree}
 use Rattle.degree_numbers.specs.declared.refusal.DegreeRefusal.{DegreeRefusal}
 use Rattle.degree_numbers.specs.declared.refusal.DegreeRefusal.TheVariants.{DegreeText}
 use Rattle.degree_numbers.specs.declared.written.WrittenDegree.{WrittenDegree}
 use Rattle.degree_numbers.specs.DegreeText.{Written, written_of}
-use Rattle.degree_numbers.specs.Fraction.{Fraction, IsLowest, IsFractionInRange, IsReduced, under_sign}
-use Rattle.degree_numbers.specs.Printing.{IsLowestOf, IsDegreeText}
+use Rattle.degree_numbers.specs.Fraction.{Fraction, IsFractionInRange, IsReduced, under_sign}
+use Rattle.degree_numbers.specs.Printing.{IsDegreeText}
 use Rattle.degree_numbers.specs.Written.{IsWritten, IsRead, too_large, in_units_of, degree_in}
 use Rattle.degree_numbers.proofs.Back.{degree_back}
 use Rattle.degree_numbers.proofs.InUnits.{size_under_sign}
-use Rattle.degree_numbers.proofs.LowestTerms.{cancelled}
 use Rattle.type_contexts.specs.Same.{IsSameFraction}
 use Rattle.type_contexts.proofs.Denominators.{written_above}
 use Rattle.type_contexts.proofs.SameNumbers.{lowest_same, range_same, same_sym, same_trans, signed_same, some_too, sign_of_size, negative_under}

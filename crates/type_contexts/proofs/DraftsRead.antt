@@ -1,7 +1,7 @@
 -- What is read of the pieces of a context.
-use Rattle.std.proofs.Common.{◌≡◌, ℕ, ◌<◌, ◌≤◌, ◌^◌, true, List, [], ◌∷◌, Some, unsigned_abs, arith, refl, ap, sym, subst, ◌∙◌}
-use Rattle.std.specs.Prelude.{◌==◌, codes}
-use Rattle.std.specs.List.{AllByRecursion, AllZip, join_with_byte, slice_split}
+use Rattle.std.proofs.Common.{◌≡◌, ℕ, ◌<◌, true, List, [], ◌∷◌, Some, unsigned_abs, arith, refl, ap, sym, subst, ◌∙◌}
+use Rattle.std.specs.Prelude.{codes}
+use Rattle.std.specs.List.{AllByRecursion, AllZip, join_with_byte}
 use Rattle.degree_numbers.specs.declared.degree.Degree.{Degree}
 use Rattle.degree_numbers.specs.declared.types.Kind.{Kind}
 use Rattle.degree_numbers.specs.declared.types.Kind.TheVariants.{Noise, Kernel}
@@ -9,13 +9,12 @@ use Rattle.degree_numbers.specs.declared.types.TypeEntry.{TypeEntry}
 use Rattle.degree_numbers.specs.Fraction.{IsFractionInRange}
 use Rattle.degree_numbers.specs.Name.{is_name}
 use Rattle.degree_numbers.specs.Printing.{IsDegreeText}
-use Rattle.degree_numbers.specs.Written.{IsRead}
 use Rattle.degree_numbers.proofs.Back.{degree_back}
 use Rattle.degree_numbers.proofs.LowestTerms.{lowest_one}
 use Rattle.type_contexts.specs.declared.draft.Draft.{Draft}
-use Rattle.type_contexts.specs.Context.{name_at, words_by, entry_words, IsEntryText}
-use Rattle.type_contexts.specs.Draft.{Words, words_of, piece_words, IsGood, IsDraftOf, IsGoodPiece, IsPieceDraft}
-use Rattle.type_contexts.proofs.Bytes.{Lacks, IsOther, lacks_name, lacks_degree, lacks_join, split_join, space_is_other, bar_is_other}
+use Rattle.type_contexts.specs.Context.{name_at, words_by, IsEntryText}
+use Rattle.type_contexts.specs.Draft.{Words, words_of, piece_words, IsDraftOf, IsGoodPiece, IsPieceDraft}
+use Rattle.type_contexts.proofs.Bytes.{Lacks, IsOther, lacks_name, lacks_degree, split_join, space_is_other}
 use Rattle.type_contexts.proofs.DegreesRead.{IsSameDegree, degree_read}
 
 -- the name that stands for the group of a type

@@ -1,8 +1,7 @@
 -- What the types of a file are, one type after the other.
-use Rattle.std.proofs.Common.{◌≡◌, ℕ, zero, suc, ◌+◌, ◌<◌, ◌≤◌, true, ℤ, pos, ◌<ℤ◌, ◌≤ℤ◌, unsigned_abs, List, [], ◌∷◌, length, map, take, drop, arith, refl, ap, sym, subst, ◌∙◌}
+use Rattle.std.proofs.Common.{◌≡◌, ℕ, zero, suc, ◌+◌, ◌<◌, ◌≤◌, true, ℤ, pos, unsigned_abs, List, [], ◌∷◌, length, map, take, drop, arith, sym, subst}
 use Rattle.std.proofs.Math.Logic.{inl, inr}
 use Rattle.std.specs.List.{AllByRecursion}
-use Rattle.std.proofs.lemmas.Int.{ints}
 use Rattle.degree_numbers.specs.declared.types.Kind.{Kind}
 use Rattle.degree_numbers.specs.declared.types.Kind.TheVariants.{Noise, Kernel}
 use Rattle.degree_numbers.specs.declared.types.TypeEntry.{TypeEntry}
@@ -12,7 +11,6 @@ use Rattle.degree_numbers.specs.Name.{is_name}
 use Rattle.degree_numbers.specs.Types.{noise_count, noises, kernels, IsNoiseEntry, IsKernelEntry, AreInOrder, AreTypes}
 use Rattle.degree_numbers.proofs.InUnits.{lowest_exists}
 use Rattle.degree_numbers.proofs.TypeBounds.{all_weaker, all_from_parts, den_small}
-use Rattle.type_contexts.specs.Context.{name_at}
 use Rattle.type_contexts.proofs.DraftsRead.{group_by, IsReadable}
 use Rattle.type_contexts.proofs.Groups.{IsOrdered, ordered, IsNumber, IsNumbered, named_at}
 use Rattle.type_contexts.proofs.SameNumbers.{size_above}

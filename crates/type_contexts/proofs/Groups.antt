@@ -1,12 +1,12 @@
 -- The groups that are read are those that were printed.
-use Rattle.std.proofs.Common.{◌≡◌, ◌≢◌, ℕ, zero, suc, ◌+◌, ◌<◌, ◌≤◌, min, nat_lt, Bool, true, false, not, List, [], ◌∷◌, ◌++◌, length, map, take, drop, fold, cond, arith, refl, ap, sym, subst, ◌∙◌}
+use Rattle.std.proofs.Common.{◌≡◌, ◌≢◌, ℕ, zero, suc, ◌+◌, ◌<◌, ◌≤◌, min, true, false, not, List, [], ◌∷◌, ◌++◌, length, map, take, drop, fold, cond, arith, refl, ap, sym, subst, ◌∙◌}
 use Rattle.std.proofs.Math.Logic.{inl, inr}
 use Rattle.std.proofs.Math.Seq.{take-length}
 use Rattle.std.specs.Prelude.{◌⊎◌, if◌then◌else◌}
 use Rattle.std.specs.List.{AllByRecursion, AllZip}
 use Rattle.std.specs.Str.{bytes_eq}
 use Rattle.std.proofs.lemmas.Bool.{lt-ltb, le-ltb}
-use Rattle.std.proofs.lemmas.List.{take_more, length-take}
+use Rattle.std.proofs.lemmas.List.{length-take}
 use Rattle.std.proofs.lemmas.Slice.Eq.{bytes_eq-Decides}
 use Rattle.degree_numbers.specs.declared.types.Kind.{Kind}
 use Rattle.degree_numbers.specs.declared.types.Kind.TheVariants.{Noise, Kernel}
@@ -14,7 +14,7 @@ use Rattle.degree_numbers.specs.declared.types.TypeEntry.{TypeEntry}
 use Rattle.degree_numbers.specs.Types.{AreDifferent, AreInOrder}
 use Rattle.type_contexts.specs.declared.draft.Draft.{Draft}
 use Rattle.type_contexts.specs.Context.{name_at}
-use Rattle.type_contexts.specs.Made.{place_of, stands_in, with_name, with_group, groups_of, number_by}
+use Rattle.type_contexts.specs.Made.{place_of, stands_in, with_name, with_group, number_by}
 use Rattle.type_contexts.proofs.DraftsRead.{group_by, IsEntryDraft}
 
 not_same : (a b : List ℕ) → a ≢ b → bytes_eq a b ≡ false

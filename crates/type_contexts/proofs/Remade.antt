@@ -1,20 +1,18 @@
 -- Types that are made of what is read of their text are the same types.
-use Rattle.std.proofs.Common.{◌≡◌, ℕ, ◌+◌, ◌<◌, ◌≤◌, true, false, ℤ, pos, ◌<ℤ◌, ◌≤ℤ◌, unsigned_abs, List, [], ◌∷◌, length, map, take, fold, decimal, arith, refl, ap, sym, subst, ◌∙◌}
+use Rattle.std.proofs.Common.{◌≡◌, ℕ, ◌<◌, ℤ, pos, ◌<ℤ◌, unsigned_abs, List, [], ◌∷◌, length, map, take, decimal, arith, refl, ap, sym, subst, ◌∙◌}
 use Rattle.std.specs.Prelude.{◌==◌, codes}
-use Rattle.std.specs.Int.{◌∣◌}
 use Rattle.std.specs.List.{AllByRecursion, AllZip, join_with_byte, slice_split}
-use Rattle.std.proofs.lemmas.Int.{ints}
 use Rattle.degree_numbers.specs.declared.types.Kind.{Kind}
 use Rattle.degree_numbers.specs.declared.types.Kind.TheVariants.{Noise, Kernel}
 use Rattle.degree_numbers.specs.declared.types.TypeEntry.{TypeEntry}
 use Rattle.degree_numbers.specs.declared.types.Types.{Types}
-use Rattle.degree_numbers.specs.Fraction.{Fraction, ClearsAll, IsLeastCommon}
+use Rattle.degree_numbers.specs.Fraction.{Fraction, ClearsAll}
 use Rattle.degree_numbers.specs.Types.{IsScaling, AreDifferent, AreTypes}
-use Rattle.degree_numbers.specs.Units.{fraction_of, fractions, IsPast}
+use Rattle.degree_numbers.specs.Units.{fractions, IsPast}
 use Rattle.degree_numbers.proofs.TypeBounds.{den_small}
 use Rattle.type_contexts.specs.declared.draft.Draft.{Draft}
-use Rattle.type_contexts.specs.Context.{words_by, entry_words, IsEntryText, scaling_text, IsContextText}
-use Rattle.type_contexts.specs.Made.{with_group, groups_of, number_by, IsEntryOf, AreMadeOf}
+use Rattle.type_contexts.specs.Context.{words_by, IsEntryText, scaling_text, IsContextText}
+use Rattle.type_contexts.specs.Made.{number_by, IsEntryOf, AreMadeOf}
 use Rattle.type_contexts.specs.Same.{IsSameFraction, IsSameEntry, AreSameTypes, degree_fractions, AreInLeastUnits}
 use Rattle.type_contexts.proofs.Bytes.{Lacks, lacks-append, lacks_join, lacks_name, split_join, bar_is_other}
 use Rattle.type_contexts.proofs.DraftsRead.{group_by, IsReadable, IsEntryDraft, degree_lacks}
@@ -59,8 +57,10 @@ clears_entries l u groups (d ∷ drafts) [] above h c = absurd h
 clears_entries l u groups (d ∷ drafts) (e ∷ es) above h c =
     let unit = in_unit u groups d e above h.0 in (
       clears_same d.degree.a_num (unsigned_abs d.degree.a_den) e.degree.a (unsigned_abs u) l (size_above d.degree.a_den d.degree.a_den_above) (same_sym e.degree.a (unsigned_abs u) d.degree.a_num (unsigned_abs d.degree.a_den) unit.a) c.0,
-      (clears_same d.degree.b_num (unsigned_abs d.degree.b_den) e.degree.b (unsigned_abs u) l (size_above d.degree.b_den d.degree.b_den_above) (same_sym e.degree.b (unsigned_abs u) d.degree.b_num (unsigned_abs d.degree.b_den) unit.b) c.1.0,
-      clears_entries l u groups drafts es above h.1 c.1.1),
+      (
+        clears_same d.degree.b_num (unsigned_abs d.degree.b_den) e.degree.b (unsigned_abs u) l (size_above d.degree.b_den d.degree.b_den_above) (same_sym e.degree.b (unsigned_abs u) d.degree.b_num (unsigned_abs d.degree.b_den) unit.b) c.1.0,
+        clears_entries l u groups drafts es above h.1 c.1.1,
+      ),
     )
 
 cleared_drafts : (l : ℕ) (u : ℤ) (groups : List (List ℕ)) (drafts : List Draft) (es : List TypeEntry) → pos 0 <ℤ u → AllZip (IsEntryOf u groups) drafts es → ClearsAll l (degree_fractions u es) → ClearsAll l (degrees drafts)
@@ -132,4 +132,4 @@ pub context_cut : (ty : Types) (text : List ℕ) → AreTypes ty → (h : IsCont
 context_cut ty text types h =
     ap (slice_split (λ b. b == 124)) h.2
     ∙ split_join 124 (scaling_text ty) h.0 refl (scaling_lacks ty types.scaling)
-        (pieces_lack (unsigned_abs ty.units.den) ty.groups ty.list h.0 (size_above ty.units.den types.den_above) (types_readable ty types) h.1)
+    (pieces_lack (unsigned_abs ty.units.den) ty.groups ty.list h.0 (size_above ty.units.den types.den_above) (types_readable ty types) h.1)

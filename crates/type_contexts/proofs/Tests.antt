@@ -1,7 +1,6 @@
 -- Tests of types, and what they decide.
 use Rattle.std.proofs.Common.{◌≡◌, ◌≢◌, ℕ, zero, suc, ◌+◌, ◌-◌, ◌*◌, ◌/◌, ◌<◌, ◌≤◌, Bool, true, false, not, nat_lt, nat_le, List, [], ◌∷◌, length, take, drop, get_or, ℤ, unsigned_abs, arith, refl, ap, sym, subst, ◌∙◌, add-one, length-drop}
 use Rattle.std.specs.Prelude.{◌==◌, ◌&&◌, ◌↔◌, IsTrue}
-use Rattle.std.specs.Int.{◌∣◌}
 use Rattle.std.specs.List.{AllByRecursion, list_all}
 use Rattle.std.proofs.Math.Nat.{div-mul_cancel, mul-div_cancel, dvd-mul_right}
 use Rattle.std.proofs.lemmas.Bool.{and_parts, and_from, not-true, leb-true, le-leb, ltb-true, lt-ltb, true≢false}
@@ -11,11 +10,11 @@ use Rattle.std.proofs.lemmas.Bool.Decides.{nat_tests}
 use Rattle.std.proofs.Math.Seq.{take-length}
 use Rattle.std.proofs.lemmas.Nat.Gcd.{dvd_antisymm, dvd_refl}
 use Rattle.text_parts.specs.Reading.{most}
-use Rattle.degree_numbers.specs.Fraction.{Fraction, IsLowest, IsCommon, IsLeastCommon}
+use Rattle.degree_numbers.specs.Fraction.{IsLowest, IsCommon, IsLeastCommon}
 use Rattle.degree_numbers.specs.Types.{IsScaling, IsWritable, AreDifferent}
 use Rattle.type_contexts.specs.Different.{begins_new}
 use Rattle.degree_numbers.proofs.InUnits.{lowest_exists}
-use Rattle.degree_numbers.proofs.LowestTerms.{lowest_one, whole_to, whole_from, cancelled}
+use Rattle.degree_numbers.proofs.LowestTerms.{whole_to, whole_from, cancelled}
 
 pub all_true : {A : Type 0} (p : A → Bool) (P : A → Type 0) → ((x : A) → p x ≡ true → P x) → (xs : List A) → list_all p xs ≡ true → AllByRecursion P xs
 all_true p P told [] h = tt

@@ -4,7 +4,7 @@
 --   AreSameTypes s t == s and t are the same in every field but the units and the degrees, which are the same as numbers
 --   degree_fractions den es == the fractions of the degrees
 --   AreInLeastUnits ty == the units are the least common denominator of the degrees
-use Rattle.std.specs.Prelude.{◌≡◌, ℕ, ◌*◌, ℤ, pos, unsigned_abs, List, [], ◌∷◌}
+use Rattle.std.specs.Prelude.{◌≡◌, ℕ, ◌*◌, ℤ, unsigned_abs, List, [], ◌∷◌}
 use Rattle.std.specs.Int.{is_negative}
 use Rattle.std.specs.List.{AllZip}
 use Rattle.degree_numbers.specs.declared.types.TypeEntry.{TypeEntry}

@@ -8,9 +8,7 @@ ghost use Rattle.type_contexts.specs.declared.refusal.ContextRefusal.TheVariants
 
 use crate::draft::Draft;
 use crate::refusal::ContextRefusal;
-use degree_numbers::{
-    Kind, Name, TypeEntry, Types, Units, WrittenDegree, in_units, join_units,
-};
+use degree_numbers::{Kind, Name, TypeEntry, Types, Units, WrittenDegree, in_units, join_units};
 use sqlite_items::Items;
 use std::alloc::{AllocError, Global};
 

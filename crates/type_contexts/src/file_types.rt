@@ -230,9 +230,11 @@ pub fn are_file_types(alloc: Global, types: &Types) -> Result<bool, AllocError>
     let list = types.list.as_slice();
     let names = names_of(alloc, list)?;
     let (noises, kernels) = list.split_at(noise_count(list));
-    Ok(is_scaling(types.dims, &types.scaling)
-        && are_few(noises.len(), kernels.len())
-        && are_entries(den, noises, kernels)
-        && are_names(names.as_slice())
-        && are_grouped(noises, types.groups.as_slice()))
+    Ok(
+        is_scaling(types.dims, &types.scaling)
+            && are_few(noises.len(), kernels.len())
+            && are_entries(den, noises, kernels)
+            && are_names(names.as_slice())
+            && are_grouped(noises, types.groups.as_slice()),
+    )
 }

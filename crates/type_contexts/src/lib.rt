@@ -8,6 +8,8 @@ mod print;
 mod read;
 mod refusal;
 mod scaling;
+#[cfg(test)]
+mod tests;
 
 pub use file_types::are_file_types;
 pub use print::context_text;

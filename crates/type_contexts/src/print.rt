@@ -139,6 +139,11 @@ pub fn context_text(alloc: Global, types: &Types) -> Result<Vec<u8>, AllocError>
 {
     let mut out = Vec::new(alloc);
     put_scaling(&mut out, types)?;
-    put_entries(&mut out, types.units, types.groups.as_slice(), types.list.as_slice())?;
+    put_entries(
+        &mut out,
+        types.units,
+        types.groups.as_slice(),
+        types.list.as_slice(),
+    )?;
     Ok(out)
 }

@@ -1,4 +1,4 @@
-use Rattle.std.proofs.Common.{◌≡◌, unsigned_abs, rules, sym}
+use Rattle.std.proofs.Common.{◌≡◌, unsigned_abs, rules}
 use Rattle.type_contexts.proofs.file_types.is_noise_entry.Goals as goal
 
 pub returns-then-is_writable : goal.returns-then-is_writable

@@ -1,4 +1,4 @@
-use Rattle.std.proofs.Common.{◌≡◌, map, ap, ◌∙◌}
+use Rattle.std.proofs.Common.{map, ap, ◌∙◌}
 use Rattle.std.proofs.lemmas.Bool.{iff_false}
 use Rattle.std.proofs.lemmas.Result.{err_from_is_err_and}
 use Rattle.type_contexts.proofs.ReadContexts.{memory_or}
@@ -12,8 +12,8 @@ returns-in_err-types-clause-refused c =
     let p = err_from_is_err_and c.from_residual-in_err-types.result c.from_residual-in_err-types.ensures.1 in
     rw (p.1, p.2)
     (λ is ty types told.
-        let memory = c.in_err-types.ensures.err ty types (told.0, told.1, ap (map (λ s. s.now)) c.as_slice.ensures.value ∙ c.in_ok-pieces.ensures ∙ context_cut ty c.args.text.now types told) in
-        absurd (memory_or is memory))
+    let memory = c.in_err-types.ensures.err ty types (told.0, told.1, ap (map (λ s. s.now)) c.as_slice.ensures.value ∙ c.in_ok-pieces.ensures ∙ context_cut ty c.args.text.now types told) in
+    absurd (memory_or is memory))
 
 pub returns-clause-refused : goal.returns-clause-refused
 returns-clause-refused c is ty types told =
