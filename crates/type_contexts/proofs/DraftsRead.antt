@@ -43,14 +43,14 @@ degree_lacks c den d text other above a b h =
     subst (Lacks c) (sym h.4)
     (lacks_degree c h.0 h.1 other (omega (arith, same_a.0, a.3)) (omega (arith, same_a.1, a.4)) (omega (arith, same_b.0, b.3)) (omega (arith, same_b.1, b.4)))
 
-abbrev the_words : Kind → List (List ℕ) → TypeEntry → List ℕ → Words
+abbrev pub the_words : Kind → List (List ℕ) → TypeEntry → List ℕ → Words
 the_words kind groups e degree = record { kind = kind; name = e.name; degree = degree; group = group_by kind groups e }
 
 words_found : (kind : Kind) (groups : List (List ℕ)) (e : TypeEntry) (degree : List ℕ) → Lacks 32 e.name → Lacks 32 degree → Lacks 32 (group_by kind groups e) → piece_words (join_with_byte 32 (words_by kind groups e degree)) ≡ Some (the_words kind groups e degree)
 words_found Noise groups e degree name text group = ap words_of (split_join 32 (codes "noise") (e.name ∷ degree ∷ name_at groups e.group ∷ []) refl (refl, (refl, (refl, (refl, (refl, tt))))) (name, (text, (group, tt))))
 words_found Kernel groups e degree name text group = ap words_of (split_join 32 (codes "kernel") (e.name ∷ degree ∷ []) refl (refl, (refl, (refl, (refl, (refl, (refl, tt)))))) (name, (text, tt)))
 
-piece_found : (den : ℕ) (groups : List (List ℕ)) (e : TypeEntry) (piece : List ℕ) → 0 < den → IsReadable den groups e → (h : IsEntryText den groups e piece) → piece_words piece ≡ Some (the_words e.kind groups e h.0)
+pub piece_found : (den : ℕ) (groups : List (List ℕ)) (e : TypeEntry) (piece : List ℕ) → 0 < den → IsReadable den groups e → (h : IsEntryText den groups e piece) → piece_words piece ≡ Some (the_words e.kind groups e h.0)
 piece_found den groups e piece above r h =
     ap piece_words h.2
     ∙ words_found e.kind groups e h.0 (lacks_name 32 e.name refl r.name) (degree_lacks 32 den e.degree h.0 space_is_other above r.a r.b h.1) (lacks_name 32 (group_by e.kind groups e) refl r.group)

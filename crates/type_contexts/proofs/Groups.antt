@@ -45,25 +45,25 @@ place_whole names g lt h = ap (λ ns. place_of ns (name_at names g)) (sym (take-
 taken_long : (names : List (List ℕ)) (met : ℕ) → met ≤ length names → length (take met names) ≡ met
 taken_long names met le = length-take met names ∙ omega (arith, le)
 
-stands_before : (names : List (List ℕ)) (met g : ℕ) → g < met → met ≤ length names → AreDifferent names → stands_in (take met names) (name_at names g) ≡ true
+pub stands_before : (names : List (List ℕ)) (met g : ℕ) → g < met → met ≤ length names → AreDifferent names → stands_in (take met names) (name_at names g) ≡ true
 stands_before names met g lt le h =
     let place = place_at names met g (omega (arith, lt, le)) le h in
     let long = taken_long names met le in
     lt-ltb (place_of (take met names) (name_at names g)) (length (take met names)) (omega (arith, place, long, lt))
 
-not_yet : (names : List (List ℕ)) (met : ℕ) → met < length names → AreDifferent names → stands_in (take met names) (name_at names met) ≡ false
+pub not_yet : (names : List (List ℕ)) (met : ℕ) → met < length names → AreDifferent names → stands_in (take met names) (name_at names met) ≡ false
 not_yet names met lt h =
     let place = place_at names met met lt (omega (arith, lt)) h in
     let long = taken_long names met (omega (arith, lt)) in
     le-ltb (place_of (take met names) (name_at names met)) (length (take met names)) (omega (arith, place, long))
 
-one_more_name : (names : List (List ℕ)) (met : ℕ) → met < length names → take met names ++ name_at names met ∷ [] ≡ take (met + 1) names
+pub one_more_name : (names : List (List ℕ)) (met : ℕ) → met < length names → take met names ++ name_at names met ∷ [] ≡ take (met + 1) names
 one_more_name [] met lt = absurd (omega (arith, lt))
 one_more_name (n ∷ names) zero lt = refl
 one_more_name (n ∷ names) (suc met) lt = ap (λ ns. n ∷ ns) (one_more_name names met (omega (arith, lt))) ∙ ap (λ k. take k (n ∷ names)) {x = suc (met + 1)} {y = suc met + 1} (omega arith)
 
 -- the numbers of the groups of noises are met in their order
-abbrev IsStep : Kind → ℕ → ℕ → Type 0 → Type 0 → Type 0
+abbrev pub IsStep : Kind → ℕ → ℕ → Type 0 → Type 0 → Type 0
 IsStep Noise g met old new = ((g < met) × old) ⊎ ((g ≡ met) × new)
 IsStep Kernel g met old new = old
 
@@ -71,7 +71,7 @@ abbrev pub IsOrdered : ℕ → List TypeEntry → ℕ → Type 0
 IsOrdered met [] all = met ≡ all
 IsOrdered met (e ∷ es) all = IsStep e.kind e.group met (IsOrdered met es all) (IsOrdered (met + 1) es all)
 
-ordered_most : (met : ℕ) (es : List TypeEntry) (all : ℕ) → IsOrdered met es all → met ≤ all
+pub ordered_most : (met : ℕ) (es : List TypeEntry) (all : ℕ) → IsOrdered met es all → met ≤ all
 ordered_most met [] all h = omega (arith, h)
 ordered_most met (e ∷ es) all h = by e.kind h (ordered_most met es all) (ordered_most (met + 1) es all)
   where

@@ -40,7 +40,7 @@ sign_times : (z : ℤ) (k : ℕ) → 0 < k → is_negative (z *ℤ pos k) ≡ is
 sign_times (pos n) k h = not_negative (n * k) ∙ sym (not_negative n)
 sign_times (negsuc n) k h = ap is_negative (negsuc-*ℤ-pos n k) ∙ negated (suc n * k) (product_above (suc n) k (omega arith) h)
 
-size_is : (d : ℤ) → pos 0 <ℤ d → pos (unsigned_abs d) ≡ d
+pub size_is : (d : ℤ) → pos 0 <ℤ d → pos (unsigned_abs d) ≡ d
 size_is d h = omega (arith, ints)
 
 pub size_above : (d : ℤ) → pos 0 <ℤ d → 0 < unsigned_abs d

@@ -4,6 +4,7 @@
 mod build;
 mod draft;
 mod file_types;
+mod laws;
 mod print;
 mod read;
 mod refusal;
@@ -12,6 +13,7 @@ mod scaling;
 mod tests;
 
 pub use file_types::are_file_types;
+pub use laws::contexts_determine_types;
 pub use print::context_text;
 pub use read::read_context;
 pub use refusal::ContextRefusal;
