@@ -1,12 +1,10 @@
 -- Types have a text, and in least units they are determined by it.
-use Rattle.std.proofs.Common.{◌≡◌, ℕ, zero, suc, negsuc, ◌*◌, ◌<◌, ◌≤◌, ℤ, pos, ◌<ℤ◌, unsigned_abs, List, [], ◌∷◌, arith, refl, ap, sym, subst, ◌∙◌}
-use Rattle.std.specs.Int.{◌∣◌, is_negative}
+use Rattle.std.proofs.Common.{◌≡◌, ℕ, negsuc, ◌<◌, ℤ, pos, unsigned_abs, List, [], ◌∷◌, arith, refl, ap, sym, subst, ◌∙◌}
+use Rattle.std.specs.Int.{is_negative}
 use Rattle.std.specs.List.{AllZip, join_with_byte}
 use Rattle.std.proofs.lemmas.Bool.{false≢true}
-use Rattle.std.proofs.lemmas.Int.{ints}
 use Rattle.std.proofs.lemmas.Nat.Gcd.{dvd_antisymm}
 use Rattle.degree_numbers.specs.declared.degree.Degree.{Degree}
-use Rattle.degree_numbers.specs.declared.degree.Units.{Units}
 use Rattle.degree_numbers.specs.declared.types.Kind.{Kind}
 use Rattle.degree_numbers.specs.declared.types.TypeEntry.{TypeEntry}
 use Rattle.degree_numbers.specs.declared.types.Types.{Types}
@@ -58,8 +56,10 @@ cleared_back l d e [] (t ∷ ts) above h c = absurd h
 cleared_back l d e (s ∷ ss) [] above h c = absurd h
 cleared_back l d e (s ∷ ss) (t ∷ ts) above h c = (
   clears_same t.degree.a (unsigned_abs e) s.degree.a (unsigned_abs d) l above (same_sym s.degree.a (unsigned_abs d) t.degree.a (unsigned_abs e) h.0.a) c.0,
-  (clears_same t.degree.b (unsigned_abs e) s.degree.b (unsigned_abs d) l above (same_sym s.degree.b (unsigned_abs d) t.degree.b (unsigned_abs e) h.0.b) c.1.0,
-  cleared_back l d e ss ts above h.1 c.1.1),
+  (
+    clears_same t.degree.b (unsigned_abs e) s.degree.b (unsigned_abs d) l above (same_sym s.degree.b (unsigned_abs d) t.degree.b (unsigned_abs e) h.0.b) c.1.0,
+    cleared_back l d e ss ts above h.1 c.1.1,
+  ),
 )
 
 by_size : (x y : ℤ) → is_negative x ≡ is_negative y → unsigned_abs x ≡ unsigned_abs y → x ≡ y

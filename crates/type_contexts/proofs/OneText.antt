@@ -1,10 +1,9 @@
 -- Types with the same text are the same types.
-use Rattle.std.proofs.Common.{◌≡◌, ℕ, zero, suc, ◌+◌, ◌*◌, ◌<◌, ◌≤◌, ◌^◌, ℤ, pos, negsuc, unsigned_abs, Bool, List, [], ◌∷◌, ◌++◌, length, map, take, fold, decimal, Option, Some, None, arith, refl, ap, sym, subst, ◌∙◌}
+use Rattle.std.proofs.Common.{◌≡◌, ℕ, ◌+◌, ◌<◌, ◌≤◌, unsigned_abs, List, [], ◌∷◌, ◌++◌, length, map, take, fold, decimal, Option, Some, arith, refl, ap, sym, subst, ◌∙◌}
 use Rattle.std.proofs.Math.Logic.{inl, inr}
 use Rattle.std.proofs.Math.Seq.{take-length}
 use Rattle.std.specs.Prelude.{◌==◌, slice_index, if◌then◌else◌}
-use Rattle.std.specs.Int.{◌∣◌, is_negative}
-use Rattle.std.specs.List.{AllByRecursion, AllZip, join_with_byte, slice_split}
+use Rattle.std.specs.List.{AllByRecursion, AllZip, slice_split}
 use Rattle.std.specs.Str.Parse.{digits_value}
 use Rattle.std.proofs.lemmas.Fmt.{decimal_is_IsNumeral}
 use Rattle.std.proofs.lemmas.List.{length-take}
@@ -14,7 +13,7 @@ use Rattle.degree_numbers.specs.declared.types.TypeEntry.{TypeEntry}
 use Rattle.degree_numbers.specs.declared.types.Types.{Types}
 use Rattle.degree_numbers.specs.Printing.{IsDegreeText}
 use Rattle.degree_numbers.specs.Types.{IsScaling, AreDifferent, AreTypes}
-use Rattle.type_contexts.specs.Context.{name_at, words_by, IsEntryText, scaling_text, IsContextText}
+use Rattle.type_contexts.specs.Context.{name_at, IsEntryText, scaling_text, IsContextText}
 use Rattle.type_contexts.specs.Draft.{Words, piece_words}
 use Rattle.type_contexts.specs.Made.{place_of, with_name}
 use Rattle.type_contexts.specs.Same.{IsSameFraction, IsSameEntry, AreSameTypes}
@@ -150,6 +149,6 @@ types_one s t text s_types t_types h k =
       scaling = scaling.1;
       list =
           entries_same d e t.groups s.list t.list k.0 d_above e_above t_types.groups.different (subst (λ gs. AllByRecursion (IsNumbered (length gs)) s.list) groups (types_numbered s s_types)) (types_numbered t t_types)
-              (subst (λ gs. AllByRecursion (IsReadable d gs) s.list) groups readable) (types_readable t t_types) (subst (λ gs. AllZip (IsEntryText d gs) s.list k.0) groups pieces) k.1;
+          (subst (λ gs. AllByRecursion (IsReadable d gs) s.list) groups readable) (types_readable t t_types) (subst (λ gs. AllZip (IsEntryText d gs) s.list k.0) groups pieces) k.1;
       groups = groups;
     }
