@@ -16,7 +16,7 @@ use Rattle.type_contexts.proofs.DraftsRead.{IsEntryDraft, good_pieces, entry_dra
 use Rattle.type_contexts.proofs.FileTypes.{types_readable}
 use Rattle.type_contexts.proofs.Pieces.{zip_map}
 use Rattle.type_contexts.proofs.SameNumbers.{size_above}
-use Rattle.type_contexts.proofs.Tests.{whole_rest}
+use Rattle.type_contexts.proofs.Decided.{whole_rest}
 
 pub memory_else : (e : ContextRefusal) → (e ≡ ContextText → ⊥) → e ≡ Memory
 memory_else ContextText other = absurd (other refl)

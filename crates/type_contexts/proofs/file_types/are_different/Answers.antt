@@ -1,5 +1,5 @@
 use Rattle.std.proofs.Common.{sym, ◌∙◌}
-use Rattle.type_contexts.proofs.Tests.{different_more, not_different}
+use Rattle.type_contexts.proofs.Decided.{different_more, not_different}
 use Rattle.type_contexts.proofs.file_types.are_different.Goals as goal
 
 pub returns-then-not-begins_new : goal.returns-then-not-begins_new

@@ -1,7 +1,7 @@
 use Rattle.std.proofs.Common.{◌≡◌, true, sym, ◌∙◌}
 use Rattle.std.proofs.lemmas.Bool.{false≢true}
 use Rattle.degree_numbers.specs.Name.{is_name}
-use Rattle.type_contexts.proofs.Tests.{all_true, all_tested}
+use Rattle.type_contexts.proofs.Decided.{all_true, all_tested}
 use Rattle.type_contexts.proofs.file_types.are_names.Goals as goal
 
 pub returns-then-have_name_texts : goal.returns-then-have_name_texts

@@ -2,7 +2,7 @@ use Rattle.std.proofs.Common.{arith, rules, ap, sym, ◌∙◌}
 use Rattle.std.specs.Prelude.{◌==◌, ◌&&◌, nat_lt, nat_le}
 use Rattle.std.specs.List.{list_all}
 use Rattle.std.proofs.lemmas.Bool.{false≢true}
-use Rattle.type_contexts.proofs.Tests.{scaling_true, scaling_entries, scaling_rest}
+use Rattle.type_contexts.proofs.Decided.{scaling_true, scaling_entries, scaling_rest}
 use Rattle.type_contexts.proofs.file_types.is_scaling.Goals as goal
 
 pub returns-then-are_scaling_entries : goal.returns-then-are_scaling_entries

@@ -1,6 +1,6 @@
 use Rattle.std.proofs.Common.{◌≤◌, ◌*◌, subst, sym}
 use Rattle.degree_numbers.specs.Fraction.{IsLowest}
-use Rattle.type_contexts.proofs.Tests.{writable}
+use Rattle.type_contexts.proofs.Decided.{writable}
 use Rattle.type_contexts.proofs.file_types.is_writable.Goals as goal
 
 pub returns-then-size-den : goal.returns-then-size-den

@@ -1,6 +1,6 @@
 use Rattle.std.proofs.Common.{[], false}
 use Rattle.degree_numbers.proofs.Common.{none_yet}
-use Rattle.type_contexts.proofs.Tests.{numerator}
+use Rattle.type_contexts.proofs.Decided.{numerator}
 use Rattle.type_contexts.proofs.file_types.lowest_numerator.Goals as goal
 
 pub nonzero_div-result-2 : goal.nonzero_div-result-2
