@@ -1,4 +1,5 @@
-pub mod SymmetryLaws
+pub mod Drawings
+pub mod Masses
 pub mod Repeats
 pub mod RootEdges
-pub mod Drawings
+pub mod SymmetryLaws

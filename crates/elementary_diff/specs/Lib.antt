@@ -1,3 +1,4 @@
 pub mod Differentials
+pub mod Masses
 pub mod Orders
 pub mod Symmetry
