@@ -1,1 +1,10 @@
+pub mod Closed
+pub mod Equal
+pub mod Extensions
+pub mod FrontLaws
+pub mod Loops
 pub mod Plans
+pub mod Regular
+pub mod Reserves
+pub mod SumBounds
+pub mod TypeLists

@@ -1,5 +1,4 @@
 -- The plan of a rule.
---   IsModest d == both parts of the degree d are at most 10^15 in size
 --   IsNodePlan eq lows row n p == p has the reserve of the node type n where n is usable, and the extensions of n to usable node types of the row, by ascending places
 --   IsRowPlan eq lows mosts row p == p has the kernel of the row, its most, and what is to be said of each node type
 --   IsPlan eq rule plan == the low degrees and the budgets are such for the rule, and each row has its plan
@@ -7,7 +6,6 @@ use Rattle.std.specs.Prelude.{◌≡◌, ⊤, ℕ, List, [], ◌∷◌, map, sli
 use Rattle.std.specs.List.Sorted.{IsStrictlySortedBy}
 use Rattle.std.specs.Ordering.{nat_cmp}
 use Rattle.degree_numbers.specs.declared.Degree.{Degree}
-use Rattle.degree_numbers.specs.Degree.{IsWithin}
 use Rattle.equation_file.specs.declared.Equation.{Equation}
 use Rattle.ordered_lists.specs.Members.{IsIn}
 use Rattle.normal_rule.specs.declared.EdgeType.{EdgeType}
@@ -16,13 +14,11 @@ use Rattle.normal_rule.specs.declared.RuleRow.{RuleRow}
 use Rattle.normal_rule.specs.declared.Rule.{Rule}
 use Rattle.conforming_trees.specs.Conforming.{labels}
 use Rattle.conforming_trees.specs.Budgets.{IsUsable, AreLow, AreBudgets, IsReserve, most_at}
+use Rattle.tree_budgets.specs.Bounds.{IsModest}
 use Rattle.tree_budgets.specs.declared.plan.Extension.{Extension}
 use Rattle.tree_budgets.specs.declared.plan.PlanNode.{PlanNode}
 use Rattle.tree_budgets.specs.declared.plan.RowPlan.{RowPlan}
 use Rattle.tree_budgets.specs.declared.plan.RulePlan.{RulePlan}
-
-abbrev pub IsModest : Degree → Type 0
-IsModest d = IsWithin d.a 1000000000000000 × IsWithin d.b 1000000000000000
 
 pub record IsNodePlan (eq : Equation) (lows : List Degree) (row : RuleRow) (n : NodeType) (p : PlanNode) : Type 0 where
   pub reserve : IsUsable (labels n) → IsReserve eq lows row (labels n) p.reserve

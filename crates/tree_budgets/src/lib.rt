@@ -1,6 +1,12 @@
 //! The plan of a rule: bounds of degrees by which its trees of a degree of at most 0 are found.
 #![tactic(auto)]
 
+mod bounds;
+mod fronts;
+mod lows;
+mod mosts;
 mod plan;
+mod rows;
+mod sums;
 
-pub use plan::{Extension, PlanNode, RowPlan, RulePlan};
+pub use plan::{Extension, PlanNode, RowPlan, RulePlan, rule_plan};

@@ -1,7 +1,17 @@
 // The plan of a rule.
+ghost use Rattle.std.specs.Prelude.{IfOk};
+ghost use Rattle.equation_file.specs.Accepted.{IsEquation};
+ghost use Rattle.normal_rule.specs.Regularity.{IsSubcritical};
+ghost use Rattle.conforming_trees.specs.Conforming.{IsRule};
+ghost use Rattle.tree_budgets.specs.Plan.{IsPlan};
+
+use crate::bounds::{Bounds, make_bounds};
+use crate::rows::plan_rows;
 use degree_numbers::{Degree, TypeId};
-use normal_rule::EdgeType;
+use equation_file::Equation;
+use normal_rule::{EdgeType, Rule};
 use sqlite_items::Items;
+use std::alloc::{AllocError, Global};
 
 /// One more edge type in front of a node type, and the place in the row of the node type that they are together.
 #[derive(Clone, Copy, Debug, PartialEq, Eq)]
@@ -35,4 +45,18 @@ pub struct RulePlan {
     pub lows: Items<Degree>,
     pub mosts: Items<Degree>,
     pub rows: Items<RowPlan>,
+}
+
+/// The plan of a rule for which the inequality of regularities holds. The low degree of a kernel is that of the least tree above an edge of it, and the greatest
+/// degree of a kernel is what a tree of degree 0 leaves for it, where the others are the least; where these are not found in as many rounds as there are kernels,
+/// the regularities give both.
+pub fn rule_plan(alloc: Global, eq: &Equation, rule: &Rule) -> Result<RulePlan, AllocError>
+    requires equation { IsEquation eq.now }
+    requires rule { IsRule eq.now rule.now }
+    requires holds { IsSubcritical eq.now rule.now }
+    ensures { IfOk result (λ plan. IsPlan eq.now rule.now plan) }
+{
+    let Bounds { lows, mosts } = make_bounds(alloc, eq, rule)?;
+    let rows = plan_rows(alloc, eq, lows.as_slice(), mosts.as_slice(), rule)?;
+    Ok(RulePlan { lows, mosts, rows })
 }
