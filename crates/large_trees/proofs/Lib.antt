@@ -1,0 +1,12 @@
+pub mod Bounds
+pub mod Decorated
+pub mod Drawings
+pub mod Equal
+pub mod Families
+pub mod Heights
+pub mod LargeTrees
+pub mod LineLaws
+pub mod RoundLines
+pub mod Sizes
+pub mod Trees
+pub mod Units

@@ -1,0 +1,6 @@
+pub mod Cells
+pub mod Classes
+pub mod Large
+pub mod Limits
+pub mod Lines
+pub mod Sums
