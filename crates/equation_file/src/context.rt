@@ -19,3 +19,26 @@ pub fn context_text(alloc: Global, types: &Types) -> Result<Vec<u8>, FileRefusal
     let text = type_contexts::context_text(alloc, types)?;
     Ok(text)
 }
+
+#[cfg(test)]
+mod tests {
+    use crate::{context_text, read_context, read_equation};
+
+    const SYSTEM: &[u8] =
+        b"version = 1\nscaling = [2, 1]\n[[noise]]\nname = \"a\"\ndegree = \"-3/2 - k\"\ngroup = \"both\"\n[[noise]]\nname = \"b\"\ndegree = \"-6/4-k\"\ngroup = \"both\"\n[[noise]]\nname = \"c\"\ndegree = \"-1\"\n[[unknown]]\nname = \"u\"\ndegree = \"2\"\nregularity = \"1/3\"\nright = \"u'(0,1)^2+a\"\n[[unknown]]\nname = \"v\"\ndegree = \"2\"\nregularity = \"1/3\"\nright = \"u*b+c\"\n";
+
+    const TEXT: &[u8] =
+        b"scaling 2,1|noise a -3/2-k both|noise b -3/2-k both|noise c -1 c|kernel u 2|kernel v 2";
+
+    #[test]
+    fn the_context_of_a_system_is_read_back(rt: HostRuntime) {
+        let eq = read_equation(rt.alloc(), SYSTEM).expect(&rt, "equation");
+        assert_eq!(rt; eq.types.units.den, 6);
+        let text = context_text(rt.alloc(), &eq.types).expect(&rt, "context");
+        assert_eq!(rt; text.as_slice(), TEXT);
+        let types = read_context(rt.alloc(), text.as_slice()).expect(&rt, "types");
+        assert_eq!(rt; types.units.den, 2);
+        let again = context_text(rt.alloc(), &types).expect(&rt, "context");
+        assert_eq!(rt; again.as_slice(), TEXT);
+    }
+}
