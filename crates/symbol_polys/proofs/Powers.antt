@@ -3,7 +3,7 @@ use Rattle.std.proofs.Common.{◌≡◌, ℕ, suc, ◌+◌, Bool, true, false, L
 use Rattle.std.specs.List.{prefix_len}
 use Rattle.std.specs.Ordering.{is_eq}
 use Rattle.symbol_polys.specs.Symbols.{PlainSymbol, symbol_order}
-use Rattle.symbol_polys.specs.Text.{with_symbol, powers}
+use Rattle.symbol_polys.specs.Text.{symbol_onto, powers}
 use Rattle.symbol_polys.proofs.SymbolLaws.{symbol_order_exact}
 
 pub equal_is : (a : Ordering) → is_eq a ≡ true → a ≡ Equal
@@ -26,10 +26,10 @@ Runs s m = powers (s ∷ m) ≡ record { symbol = s; exponent = 1 + run s m } �
 more_of : (s t : PlainSymbol) (m : List PlainSymbol) → s ≡ t → same s t ≡ true → Runs t m → Runs s (t ∷ m)
 more_of s t m e h runs =
     let one : 1 + run s m ≡ suc (run t m) = omega (arith, ap (λ (u : PlainSymbol). run u m) e) in
-    ap (with_symbol s) runs ∙ rw h (rw one (ap (λ (k : ℕ). record { symbol = s; exponent = 1 + k } ∷ powers (drop (run t m) m)) (omega arith)))
+    ap (symbol_onto s) runs ∙ rw h (rw one (ap (λ (k : ℕ). record { symbol = s; exponent = 1 + k } ∷ powers (drop (run t m) m)) (omega arith)))
 
 other_first : (s t : PlainSymbol) (m : List PlainSymbol) → same s t ≡ false → Runs t m → Runs s (t ∷ m)
-other_first s t m h runs = ap (with_symbol s) runs ∙ rw (h, runs) refl
+other_first s t m h runs = ap (symbol_onto s) runs ∙ rw (h, runs) refl
 
 runs_at : (s t : PlainSymbol) (m : List PlainSymbol) (b : Bool) → same s t ≡ b → Runs t m → Runs s (t ∷ m)
 runs_at s t m true h runs = more_of s t m (same_is s t h) h runs

@@ -1,8 +1,13 @@
 pub mod Code
 pub mod Derivatives
+pub mod Neighbours
 pub mod Numerals
+pub mod Pieces
 pub mod Polynomials
 pub mod Products
+pub mod Reading
+pub mod SymbolReading
 pub mod Symbols
+pub mod TermReading
 pub mod Text
 pub mod View

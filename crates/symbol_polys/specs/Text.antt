@@ -53,13 +53,13 @@ pub record Power : Type 0 where
   pub exponent : ℕ
 
 -- one more symbol in front
-abbrev pub with_symbol : PlainSymbol → List Power → List Power
-with_symbol s [] = record { symbol = s; exponent = 1 } ∷ []
-with_symbol s (x ∷ xs) = if is_eq (symbol_order s x.symbol) then record { symbol = s; exponent = 1 + x.exponent } ∷ xs else record { symbol = s; exponent = 1 } ∷ x ∷ xs
+abbrev pub symbol_onto : PlainSymbol → List Power → List Power
+symbol_onto s [] = record { symbol = s; exponent = 1 } ∷ []
+symbol_onto s (x ∷ xs) = if is_eq (symbol_order s x.symbol) then record { symbol = s; exponent = 1 + x.exponent } ∷ xs else record { symbol = s; exponent = 1 } ∷ x ∷ xs
 
 abbrev pub powers : List PlainSymbol → List Power
 powers [] = []
-powers (s ∷ m) = with_symbol s (powers m)
+powers (s ∷ m) = symbol_onto s (powers m)
 
 abbrev pub power_text : Types → List (List ℕ) → Power → List ℕ
 power_text ty ps x = symbol_text ty ps x.symbol ++ (if x.exponent == 1 then [] else 94 ∷ numeral x.exponent)

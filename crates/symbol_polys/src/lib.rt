@@ -9,17 +9,24 @@ mod laws;
 mod masses;
 mod poly;
 mod products;
+mod reading;
+mod reading_powers;
+mod reading_symbols;
+mod reading_terms;
+mod splitting;
 mod sums;
 mod symbols;
 #[cfg(test)]
 mod tests;
 mod text;
+mod written;
 
 pub use derivatives::derive;
 pub use error::PolyError;
 pub use laws::{coefficients_determine, product_laws};
 pub use poly::{Poly, Term, one, scale, symbol, zero};
 pub use products::mul;
+pub use reading::read_poly;
 pub use sums::add;
 pub use symbols::{
     Symbol, copy_symbol, copy_symbols, monomial_order, symbol_order, symbol_order_laws,

@@ -149,8 +149,8 @@ fn put_powers(
     Ok(())
 }
 
-// The factors of a number and a monomial, joined by `*`.
-fn put_body(
+/// The factors of a number and a monomial, joined by `*`.
+pub(crate) fn put_body(
     out: &mut Vec<u8>,
     alloc: Global,
     names: &Names<'_>,
