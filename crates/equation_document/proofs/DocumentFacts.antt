@@ -35,16 +35,13 @@ use Rattle.equation_document.specs.declared.entries.KeySet.TheVariants as keys
 use Rattle.equation_document.proofs.DegreeFacts.{degree_read}
 use Rattle.equation_document.proofs.DocumentRead.{IsDegreeRead, IsFactorRead, IsTermRead, IsUnknownRead, IsRead}
 use Rattle.equation_document.proofs.NameFacts.{names_push}
-use Rattle.equation_document.proofs.ReadFacts.{bind_ok, same_value, accepted_parts, read_accepted}
+use Rattle.equation_document.proofs.ReadFacts.{bind_ok, err_ok, same_value, accepted_parts, read_accepted}
 use Rattle.right_side_text.proofs.TermFacts.{IsFactorWritten, IsTermWritten, none_some, side_of, same_some, all_push, right_side_written}
 
 -- how many items there are
 abbrev count : Items → ℕ
 count no_items = 0
 count (item d ds) = 1 + count ds
-
-err_ok : {A P : Type 0} (e : Fault) (a : A) → ◌≡◌ {A = Result A Fault} (Err e) (Ok a) → P
-err_ok e a h = absurd (true≢false (sym (ap is_ok h)))
 
 -- what passes a test that is a fault where it fails
 pub passed : {A : Type 0} (c : Bool) (a b : A) (e : Fault) → (if c then Ok a else Err e) ≡ Ok b → (c ≡ true) × (a ≡ b)

@@ -26,6 +26,9 @@ pub bind_ok : {A B : Type 0} (r : Result A Fault) (f : A → Result B Fault) (b 
 bind_ok (Ok a) f b h = (a, refl, h)
 bind_ok (Err e) f b h = absurd (true≢false (sym (ap is_ok h)))
 
+pub err_ok : {A P : Type 0} (e : Fault) (a : A) → ◌≡◌ {A = Result A Fault} (Err e) (Ok a) → P
+err_ok e a h = absurd (true≢false (sym (ap is_ok h)))
+
 or_else : {A : Type 0} → A → Result A Fault → A
 or_else d (Ok a) = a
 or_else d (Err e) = d
@@ -101,17 +104,14 @@ reading-short bs short utf8 = rw (not_longer 65536 (length bs) short, is_utf8-fr
 pub reading-not_utf8 : (bs : List ℕ) → length bs ≤ 65536 → ¬ (IsUtf8 bs) → reading bs ≡ Err faults.NotUtf8
 reading-not_utf8 bs short wrong = rw (not_longer 65536 (length bs) short, not_utf8 bs wrong) refl
 
-none_read : {P : Type 0} (f : Fault) (doc : Document) → ◌≡◌ {A = Result Document Fault} (Err f) (Ok doc) → P
-none_read f doc e = absurd (true≢false (sym (ap is_ok e)))
-
 of_table : (table : Option Members) (doc : Document) → table_document table ≡ Ok doc → (ms : Members) × (accepted ms ≡ Ok doc)
-of_table None doc h = none_read faults.NotToml doc h
+of_table None doc h = err_ok faults.NotToml doc h
 of_table (Some ms) doc h = (ms, h)
 
 read_as : (long utf8 : Bool) (read : Result Document Fault) (f g : Fault) (doc : Document) → (if long then Err f else if utf8 then read else Err g) ≡ Ok doc → read ≡ Ok doc
-read_as true utf8 read f g doc h = none_read f doc h
+read_as true utf8 read f g doc h = err_ok f doc h
 read_as false true read f g doc h = h
-read_as false false read f g doc h = none_read g doc h
+read_as false false read f g doc h = err_ok g doc h
 
 -- what is read is held by an accepted table
 pub read_accepted : (bytes : List ℕ) (doc : Document) → reading bytes ≡ Ok doc → (ms : Members) × (accepted ms ≡ Ok doc)

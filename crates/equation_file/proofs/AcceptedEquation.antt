@@ -1,27 +1,28 @@
 -- Every equation that is read is within all limits of a file.
-use Rattle.std.proofs.Common.{◌≡◌, ℕ, ◌<◌, ◌≤◌, ◌≤ℤ◌, true≢false, is_ok, inl, inr, List, [], ◌∷◌, length, Result, Ok, Err, IfOk, pos, unsigned_abs, refl, sym, ap, subst, ◌∙◌, arith}
+use Rattle.std.proofs.Common.{◌≡◌, ℕ, ◌<◌, ◌≤◌, ◌≤ℤ◌, true≢false, is_ok, unwrap_or, inl, inr, List, [], ◌∷◌, length, Result, Ok, Err, IfOk, pos, unsigned_abs, refl, sym, ap, subst, ◌∙◌, arith}
 use Rattle.std.specs.List.{AllByRecursion, range_with_len}
+use Rattle.std.specs.Result.{result_ok}
 use Rattle.std.proofs.lemmas.Int.{ints}
 use Rattle.std.proofs.lemmas.List.{length-take-le}
 use Rattle.std.proofs.lemmas.List.Elements.{All-from_recursion}
 use Rattle.degree_numbers.specs.declared.types.Types.{Types}
 use Rattle.degree_numbers.specs.Types.{IsWritable, noise_count}
 use Rattle.equation_document.specs.declared.document.Document.{Document}
+use Rattle.equation_document.specs.declared.fault.Fault.{Fault}
+use Rattle.equation_document.specs.File.{reading}
+use Rattle.equation_document.specs.Limits.{units_of, denominator_of, limits_of}
+use Rattle.equation_document.proofs.DocumentFacts.{read_is_read}
+use Rattle.equation_document.proofs.DocumentRead.{IsRead}
+use Rattle.equation_document.proofs.LimitFacts.{is_within}
 use Rattle.equation_file.specs.declared.equation.Equation.{Equation}
 use Rattle.equation_file.specs.declared.equation.Unknown.{Unknown}
-use Rattle.equation_document.specs.declared.fault.Fault.{Fault}
 use Rattle.equation_file.specs.declared.refusal.FileRefusal.{FileRefusal}
 use Rattle.equation_file.specs.Accepted.{IsUnknown, IsEquation}
-use Rattle.equation_document.specs.File.{reading}
 use Rattle.equation_file.specs.File.{told, equation_of}
-use Rattle.equation_document.specs.Limits.{units_of, denominator_of, limits_of}
 use Rattle.equation_file.specs.Refusals.{IsAnswer}
 use Rattle.equation_file.specs.Meaning.{types_of, equation_in, document_equation}
 use Rattle.equation_file.proofs.AcceptedRights.{IsRight, accepted_rights, regularities_are, kernel_numbers}
 use Rattle.equation_file.proofs.AcceptedTypes.{accepted_types, all_names, denominator_within, kernels_are, noise_count_is, regularity_writable}
-use Rattle.equation_document.proofs.DocumentFacts.{read_is_read}
-use Rattle.equation_document.proofs.DocumentRead.{IsRead}
-use Rattle.equation_document.proofs.LimitFacts.{is_within}
 
 unknowns_are : (ty : Types) (count : ℕ) (us : List Unknown) → AllByRecursion (λ u. IsRight ty count u.right) us → AllByRecursion (λ u. IsWritable (unsigned_abs ty.units.den) u.regularity.a × (u.regularity.b ≡ pos 0)) us → AllByRecursion (IsUnknown ty count) us
 unknowns_are ty count [] rights regularities = tt
@@ -61,13 +62,8 @@ pub document_is_equation : (doc : Document) → IsRead doc → limits_of doc ≡
 unfolding document_equation
 document_is_equation doc read passed = in_equation doc read passed
 
-ok_or : {A E : Type 0} → A → Result A E → A
-ok_or otherwise (Ok a) = a
-ok_or otherwise (Err e) = otherwise
-
 told_is : (read : Result Document Fault) (eq : Equation) → ((doc : Document) → read ≡ Ok doc → IsEquation (document_equation doc)) → told read ≡ Ok eq → IsEquation eq
-unfolding ok_or
-told_is (Ok doc) eq is h = subst IsEquation (ap (ok_or (document_equation doc)) h) (is doc refl)
+told_is (Ok doc) eq is h = subst IsEquation (ap (λ r. unwrap_or (result_ok r) (document_equation doc)) h) (is doc refl)
 told_is (Err f) eq is h = absurd (true≢false (sym (ap is_ok h)))
 
 pub answer_is : (bytes : List ℕ) (result : Result Equation FileRefusal) → IsAnswer (equation_of bytes) result → IfOk result (λ eq. IsEquation eq)

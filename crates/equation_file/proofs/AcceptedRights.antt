@@ -18,26 +18,27 @@ use Rattle.degree_numbers.specs.Written.{degree_in}
 use Rattle.degree_numbers.proofs.TypeBounds.{all_weaker}
 use Rattle.right_side_text.specs.declared.written.WrittenFactor.{WrittenFactor}
 use Rattle.right_side_text.specs.declared.written.WrittenTerm.{WrittenTerm}
+use Rattle.right_side_text.proofs.TermFacts.{all_push}
 use Rattle.equation_document.specs.declared.document.Document.{Document}
 use Rattle.equation_document.specs.declared.document.NoiseEntry.{NoiseEntry}
 use Rattle.equation_document.specs.declared.document.UnknownEntry.{UnknownEntry}
-use Rattle.equation_file.specs.declared.equation.RightTerm.{RightTerm}
 use Rattle.equation_document.specs.declared.names.Names.{Names}
+use Rattle.equation_document.specs.FirstOf.{over, first_of}
+use Rattle.equation_document.specs.Limits.{right_terms, units_of, denominator_of, limits_of}
+use Rattle.equation_document.specs.Names.{place_of, stands_in, is_noise}
+use Rattle.equation_document.specs.Terms.{term_number, power_of, term_factors, factor_derivative, term_derivative}
+use Rattle.equation_document.proofs.DocumentRead.{IsFactorRead, IsTermRead, IsRead}
+use Rattle.equation_document.proofs.FirstOfLemmas.{neither, within, none_index}
+use Rattle.equation_document.proofs.LimitFacts.{is_within}
+use Rattle.equation_file.specs.declared.equation.RightTerm.{RightTerm}
 use Rattle.equation_file.specs.declared.product.Product.{Product}
 use Rattle.equation_file.specs.Accepted.{IsFactor, IsRightTerm}
 use Rattle.equation_file.specs.Collect.{same, with_new, different, size, sum_under, coefficient_of, collected}
 use Rattle.equation_file.specs.EdgeTypes.{EdgeType, edge_type_order}
-use Rattle.equation_document.specs.FirstOf.{over, first_of}
-use Rattle.equation_document.specs.Limits.{right_terms, units_of, denominator_of, limits_of}
 use Rattle.equation_file.specs.Meaning.{groups_of, noise_type, kernel_type, type_list, types_of, unknowns_from, equation_in}
-use Rattle.equation_document.specs.Names.{place_of, stands_in, is_noise}
 use Rattle.equation_file.specs.Products.{placed_often, five, is_parameter, edge_type_of, with_parameter, with_factor, product_of, products}
-use Rattle.equation_document.specs.Terms.{term_number, power_of, term_factors, factor_derivative, term_derivative}
 use Rattle.equation_file.proofs.AcceptedTypes.{noise_count_is}
-use Rattle.equation_document.proofs.DocumentRead.{IsFactorRead, IsTermRead, IsRead}
 use Rattle.equation_file.proofs.EdgeTypeLaws.{edge_type_order_total}
-use Rattle.equation_document.proofs.FirstOfLemmas.{neither, within, none_index}
-use Rattle.equation_document.proofs.LimitFacts.{is_within}
 use Rattle.equation_file.proofs.PlacedLaws.{Rises, rises_often, all_often, length_often, count_often, sorted_from}
 
 pub record Fits (ty : Types) (names : Names) : Type 0 where
@@ -223,10 +224,6 @@ products_are ty names count (t ∷ ts) fits le read number few small =
     (product_is ty names count t fits le read.0 n.0 k.0 d.0, products_are ty names count ts fits le read.1 n.1 k.1 d.1)
 
 -- the different terms
-
-all_push : {X : Type 0} (P : X → Type 0) (xs : List X) (x : X) → AllByRecursion P xs → P x → AllByRecursion P (xs ++ x ∷ [])
-all_push P [] x h p = (p, tt)
-all_push P (y ∷ ys) x h p = (h.0, all_push P ys x h.1 p)
 
 different_all : (P : Product → Type 0) (ts seen : List Product) → AllByRecursion P ts → AllByRecursion P seen → AllByRecursion P (fold with_new seen ts)
 different_all P [] seen h s = s

@@ -11,15 +11,15 @@ use Rattle.equation_document.specs.declared.document.NoiseEntry.{NoiseEntry}
 use Rattle.equation_document.specs.declared.document.UnknownEntry.{UnknownEntry}
 use Rattle.equation_document.specs.FirstOf.{over, first_of}
 use Rattle.equation_document.specs.Limits.{noise_number, unknown_number, noise_size, unknown_size, degree_fractions, units_of, coefficients, denominator_of, limits_of}
-use Rattle.equation_file.specs.Meaning.{groups_of, noise_type, kernel_type, types_of}
-use Rattle.equation_file.specs.Products.{five}
-use Rattle.equation_file.proofs.ClearedDegrees.{AreCleared, IsUnknownFit, units_clear, noise_entry, kernel_entry, regularity_fits}
 use Rattle.equation_document.proofs.DocumentRead.{IsDegreeRead, IsUnknownRead, IsRead}
 use Rattle.equation_document.proofs.Everywhere.{all_mapped, all_both, all_none}
 use Rattle.equation_document.proofs.FirstOfLemmas.{neither, within}
-use Rattle.equation_file.proofs.GroupLemmas.{later_names, groups_named, in_order}
 use Rattle.equation_document.proofs.LeastCommon.{least_above}
 use Rattle.equation_document.proofs.LimitFacts.{is_within}
+use Rattle.equation_file.specs.Meaning.{groups_of, noise_type, kernel_type, types_of}
+use Rattle.equation_file.specs.Products.{five}
+use Rattle.equation_file.proofs.ClearedDegrees.{AreCleared, IsUnknownFit, units_clear, noise_entry, kernel_entry, regularity_fits}
+use Rattle.equation_file.proofs.GroupLemmas.{later_names, groups_named, in_order}
 
 pub units_above : (doc : Document) → 0 < units_of doc
 unfolding units_of

@@ -15,11 +15,11 @@ use Rattle.equation_document.specs.declared.document.UnknownEntry.{UnknownEntry}
 use Rattle.equation_document.specs.DegreeEntry.{written, is_standard, rounded_up, degree_size}
 use Rattle.equation_document.specs.FirstOf.{over}
 use Rattle.equation_document.specs.Limits.{noise_number, unknown_number, noise_size, unknown_size, with_fractions, noise_fractions, unknown_fractions, degree_fractions, units_of}
-use Rattle.equation_file.specs.Meaning.{noise_type, kernel_type}
 use Rattle.equation_document.proofs.DocumentRead.{IsDegreeRead, IsUnknownRead}
 use Rattle.equation_document.proofs.Everywhere.{all_parts}
 use Rattle.equation_document.proofs.FirstOfLemmas.{neither, within}
 use Rattle.equation_document.proofs.LeastCommon.{plain, zero_is, both, least_clears}
+use Rattle.equation_file.specs.Meaning.{noise_type, kernel_type}
 
 abbrev pub AreCleared : ℕ → Written → Type 0
 AreCleared l w = Clears l w.plain × Clears l w.with_k

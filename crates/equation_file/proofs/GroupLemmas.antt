@@ -8,10 +8,10 @@ use Rattle.degree_numbers.specs.declared.types.TypeEntry.{TypeEntry}
 use Rattle.degree_numbers.specs.Name.{is_name}
 use Rattle.degree_numbers.specs.Types.{AreDifferent, AreNames, AreInOrder}
 use Rattle.equation_document.specs.declared.document.NoiseEntry.{NoiseEntry}
-use Rattle.equation_file.specs.Meaning.{with_group, noise_type}
 use Rattle.equation_document.specs.Names.{place_of, stands_in}
 use Rattle.equation_document.proofs.Everywhere.{all_parts, all_joined}
 use Rattle.equation_document.proofs.LeastCommon.{below, not_below}
+use Rattle.equation_file.specs.Meaning.{with_group, noise_type}
 
 apart : (a b : List ℕ) → bytes_eq a b ≡ false → a ≢ b
 apart a b other e = true≢false (sym ((bytes_eq-Decides a b).1 e) ∙ other)

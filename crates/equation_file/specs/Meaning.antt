@@ -14,12 +14,12 @@ use Rattle.right_side_text.specs.declared.written.WrittenTerm.{WrittenTerm}
 use Rattle.equation_document.specs.declared.document.Document.{Document}
 use Rattle.equation_document.specs.declared.document.NoiseEntry.{NoiseEntry}
 use Rattle.equation_document.specs.declared.document.UnknownEntry.{UnknownEntry}
-use Rattle.equation_file.specs.declared.equation.Equation.{Equation}
-use Rattle.equation_file.specs.declared.equation.Unknown.{Unknown}
 use Rattle.equation_document.specs.declared.names.Names.{Names}
-use Rattle.equation_file.specs.Collect.{collected}
 use Rattle.equation_document.specs.Limits.{units_of, denominator_of}
 use Rattle.equation_document.specs.Names.{place_of, stands_in}
+use Rattle.equation_file.specs.declared.equation.Equation.{Equation}
+use Rattle.equation_file.specs.declared.equation.Unknown.{Unknown}
+use Rattle.equation_file.specs.Collect.{collected}
 use Rattle.equation_file.specs.Products.{five, products}
 
 abbrev pub with_group : List (List ℕ) → NoiseEntry → List (List ℕ)

@@ -16,9 +16,9 @@ use Rattle.degree_numbers.specs.declared.multi.Multi.{Multi}
 use Rattle.right_side_text.specs.declared.written.WrittenFactor.{WrittenFactor}
 use Rattle.right_side_text.specs.declared.written.WrittenTerm.{WrittenTerm}
 use Rattle.equation_document.specs.declared.names.Names.{Names}
+use Rattle.equation_document.specs.Names.{place_of}
 use Rattle.equation_file.specs.declared.product.Product.{Product}
 use Rattle.equation_file.specs.EdgeTypes.{EdgeType, edge_type_order}
-use Rattle.equation_document.specs.Names.{place_of}
 
 abbrev pub placed : {X : Type 0} → (X → X → Ordering) → List X → X → List X
 placed c xs x =

@@ -5,7 +5,6 @@
 --   IsAnswer read result == the result is what is read; want of memory is free
 use Rattle.std.specs.Prelude.{ℕ, ◌≡◌, ◌⊎◌, pos, min, List, ◌++◌, codes, decimal, Result, Err}
 use Rattle.text_parts.specs.Reading.{most}
-use Rattle.equation_file.specs.declared.equation.Equation.{Equation}
 use Rattle.equation_document.specs.declared.fault.Section.{Section}
 use Rattle.equation_document.specs.declared.fault.Section.TheVariants as sections
 use Rattle.equation_document.specs.declared.fault.Field.{Field}
@@ -14,6 +13,7 @@ use Rattle.equation_document.specs.declared.fault.Entry.{Entry}
 use Rattle.equation_document.specs.declared.fault.Entry.TheVariants.{File, Whole, Item, Part}
 use Rattle.equation_document.specs.declared.fault.Fault.{Fault}
 use Rattle.equation_document.specs.declared.fault.Fault.TheVariants as faults
+use Rattle.equation_file.specs.declared.equation.Equation.{Equation}
 use Rattle.equation_file.specs.declared.refusal.FileRefusal.{FileRefusal}
 use Rattle.equation_file.specs.declared.refusal.FileRefusal.TheVariants as refusals
 

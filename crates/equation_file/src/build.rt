@@ -1,12 +1,12 @@
 // The equation that a document writes down.
 ghost use Rattle.std.specs.Prelude.{◌≡◌, ◌≤◌, ◌<◌, ◌+◌, ◌++◌, ℕ, pos, None, length, map, take, slice_index, Ok, IfOk, OnOk};
-ghost use Rattle.equation_file.specs.Collect.{collected};
 ghost use Rattle.equation_document.specs.FirstOf.{over, first_of};
 ghost use Rattle.equation_document.specs.Limits.{noise_number, unknown_number, right_terms, limits_of};
 ghost use Rattle.equation_document.specs.Counted.{AreCounted};
+ghost use Rattle.equation_document.specs.Terms.{term_derivative};
+ghost use Rattle.equation_file.specs.Collect.{collected};
 ghost use Rattle.equation_file.specs.Meaning.{groups_of, noise_type, kernel_type, type_list, types_of, unknown_of, unknowns_from, equation_in, document_equation};
 ghost use Rattle.equation_file.specs.Products.{five, products};
-ghost use Rattle.equation_document.specs.Terms.{term_derivative};
 
 use crate::collect::collected;
 use crate::equation::{Equation, RightTerm, Unknown};

@@ -2,11 +2,11 @@
 ghost use Rattle.std.specs.Prelude.{ℕ, ◌≡◌, ◌≤◌, ◌<◌, None, length, slice_index, not, IfOk, OnOk};
 ghost use Rattle.std.specs.List.{prefix_len};
 ghost use Rattle.std.specs.Ordering.{nat_cmp, is_gt};
-ghost use Rattle.equation_file.specs.EdgeTypes.{edge_type_order};
 ghost use Rattle.equation_document.specs.FirstOf.{over, first_of};
 ghost use Rattle.equation_document.specs.Names.{place_of};
-ghost use Rattle.equation_file.specs.Products.{placed, placed_often, five, multi_of, is_parameter, edge_type_of, with_parameter, with_factor, parameters_of, factors_of, product_of, products};
 ghost use Rattle.equation_document.specs.Terms.{factor_derivative, term_derivative};
+ghost use Rattle.equation_file.specs.EdgeTypes.{edge_type_order};
+ghost use Rattle.equation_file.specs.Products.{placed, placed_often, five, multi_of, is_parameter, edge_type_of, with_parameter, with_factor, parameters_of, factors_of, product_of, products};
 
 use crate::edge_types::edge_type_order;
 use crate::product::Product;
