@@ -1,5 +1,5 @@
 -- Neighbours with one monomial are joined, and what cancels is left out.
-use Rattle.std.proofs.Common.{◌≡◌, ◌≢◌, ◌<◌, ◌++◌, map, append_assoc, append-nil, ℕ, zero, suc, ◌≤◌, ◌+◌, Bool, true, false, cond, List, [], ◌∷◌, ℤ, pos, negsuc, ◌+ℤ◌, unsigned_abs, refl, sym, ap, ◌∙◌, arith, ◌≤ℤ◌, subst, Ordering, Less, Equal, Greater, is_lt, nat_cmp, length}
+use Rattle.std.proofs.Common.{◌≡◌, ◌≢◌, ◌<◌, ◌++◌, append_assoc, append-nil, Result, Ok, Err, IfOk, ℕ, zero, suc, ◌≤◌, ◌+◌, Bool, true, false, cond, List, [], ◌∷◌, ℤ, pos, negsuc, ◌+ℤ◌, unsigned_abs, refl, sym, ap, ◌∙◌, arith, ◌≤ℤ◌, subst, Ordering, Less, Equal, Greater, is_lt, nat_cmp, length}
 use Rattle.std.specs.List.{AllByRecursion}
 use Rattle.std.specs.List.Sorted.{IsSorted, IsStrictlySortedBy}
 use Rattle.std.specs.Ordering.{ordering_reverse, is_eq}
@@ -8,9 +8,7 @@ use Rattle.std.proofs.lemmas.Int.{ints}
 use Rattle.ordered_lists.proofs.Unique.{sorted-rest, less-through}
 use Rattle.ordered_lists.proofs.Counts.{first_is_least}
 use Rattle.symbol_polys.specs.Symbols.{PlainSymbol, monomial_order, IsMonomial}
-use Rattle.symbol_polys.specs.Polynomials.{PlainTerm, monomials, coefficient_of, size_of, term_order, IsPolynomial}
-use Rattle.symbol_polys.specs.View.{symbol_of, term_of, terms_of}
-use Rattle.symbol_polys.specs.declared.poly.Term.{Term}
+use Rattle.symbol_polys.specs.Polynomials.{PlainTerm, monomials, coefficient_of, size_of, term_order, IsPolynomial, IsSumOf}
 use Rattle.symbol_polys.proofs.SymbolLaws.{monomial_order_exact, term_order_total}
 
 abbrev pub plus : PlainTerm → PlainTerm → PlainTerm
@@ -238,36 +236,32 @@ zero_is (negsuc n) h = absurd cc
 not_zero : (z : ℤ) → is_zero z ≡ false → z ≢ pos 0
 not_zero z h = λ e. let k : is_zero z ≡ true = ap is_zero e in absurd cc
 
-pushed : (ts : List Term) (t : Term) (us : List PlainTerm) → terms_of (ts ++ t ∷ []) ++ us ≡ terms_of ts ++ term_of t ∷ us
-pushed [] t us = refl
-pushed (u ∷ ts) t us = ap (λ (vs : List PlainTerm). term_of u ∷ vs) (pushed ts t us)
-
-pub closes : (ts ts' : List Term) (t : Term) → (t.coefficient ≡ pos 0 → ts' ≡ ts) → (t.coefficient ≢ pos 0 → ts' ≡ ts ++ t ∷ []) → (us : List PlainTerm) → terms_of ts' ++ us ≡ terms_of ts ++ kept (term_of t) us
+pub closes : (ts ts' : List PlainTerm) (t : PlainTerm) → (t.coefficient ≡ pos 0 → ts' ≡ ts) → (t.coefficient ≢ pos 0 → ts' ≡ ts ++ t ∷ []) → (us : List PlainTerm) → ts' ++ us ≡ ts ++ kept t us
 closes ts ts' t h k us =
-    (elim (is_zero t.coefficient) as (λ b. is_zero t.coefficient ≡ b → terms_of ts' ++ us ≡ terms_of ts ++ cond b us (term_of t ∷ us)) [
-      | true ↦ λ e. ap (λ (xs : List Term). terms_of xs ++ us) (h (zero_is t.coefficient e))
-      | false ↦ λ e. ap (λ (xs : List Term). terms_of xs ++ us) (k (not_zero t.coefficient e)) ∙ pushed ts t us
+    (elim (is_zero t.coefficient) as (λ b. is_zero t.coefficient ≡ b → ts' ++ us ≡ ts ++ cond b us (t ∷ us)) [
+      | true ↦ λ e. ap (λ (xs : List PlainTerm). xs ++ us) (h (zero_is t.coefficient e))
+      | false ↦ λ e. ap (λ (xs : List PlainTerm). xs ++ us) (k (not_zero t.coefficient e)) ∙ append_assoc ts (t ∷ []) us
     ]) refl
 
-each_pushed : (ts : List Term) (t : Term) → AllByRecursion IsMonomial (monomials (terms_of ts)) → IsMonomial (map symbol_of t.symbols) → AllByRecursion IsMonomial (monomials (terms_of (ts ++ t ∷ [])))
-each_pushed [] t h k = (k, tt)
-each_pushed (u ∷ ts) t h k = (h.0, each_pushed ts t h.1 k)
-
-pub each_closed : (ts ts' : List Term) (t : Term) → (t.coefficient ≡ pos 0 → ts' ≡ ts) → (t.coefficient ≢ pos 0 → ts' ≡ ts ++ t ∷ []) → AllByRecursion IsMonomial (monomials (terms_of ts)) → IsMonomial (map symbol_of t.symbols) →
-    AllByRecursion IsMonomial (monomials (terms_of ts'))
-each_closed ts ts' t h k a m =
-    (elim (is_zero t.coefficient) as (λ b. is_zero t.coefficient ≡ b → AllByRecursion IsMonomial (monomials (terms_of ts'))) [
-      | true ↦ λ e. subst (λ (xs : List Term). AllByRecursion IsMonomial (monomials (terms_of xs))) (sym (h (zero_is t.coefficient e))) a
-      | false ↦ λ e. subst (λ (xs : List Term). AllByRecursion IsMonomial (monomials (terms_of xs))) (sym (k (not_zero t.coefficient e))) (each_pushed ts t a m)
-    ]) refl
+pub is_sum-joined : (us ts : List PlainTerm) → IsSorted term_order us → ts ≡ join_onto no_sum us → IsSumOf us ts
+is_sum-joined us ts s e = subst (λ (vs : List PlainTerm). IsSumOf us vs) (sym e) record {
+  ascending = strict-joined us s;
+  not_zero = not_zero-join_onto no_sum us;
+  coefficients = λ m. coefficient_of-joined m us;
+  size = size_of-joined us;
+}
 
 size_below : (n k : ℕ) → n ≤ k → pos n ≤ℤ pos k
 size_below n k h = omega (arith, ints)
 
-pub is_polynomial-joined : (us ts : List PlainTerm) → IsSorted term_order us → ts ≡ join_onto no_sum us → AllByRecursion IsMonomial (monomials ts) → IsPolynomial (pos (size_of us)) ts
-is_polynomial-joined us ts s e a = record {
+pub is_polynomial-sum : (us vs ts : List PlainTerm) → IsSumOf us vs → ts ≡ vs → AllByRecursion IsMonomial (monomials ts) → IsPolynomial (pos (size_of us)) ts
+is_polynomial-sum us vs ts s e a = record {
   each = a;
-  ascending = subst (λ (vs : List PlainTerm). IsStrictlySortedBy monomial_order (monomials vs)) (sym e) (strict-joined us s);
-  not_zero = subst (λ (vs : List PlainTerm). AllByRecursion (λ u. 0 < unsigned_abs u.coefficient) vs) (sym e) (not_zero-join_onto no_sum us);
-  within = size_below (size_of ts) (size_of us) (subst (λ (vs : List PlainTerm). size_of vs ≤ size_of us) (sym e) (size_of-joined us));
+  ascending = subst (λ (xs : List PlainTerm). IsStrictlySortedBy monomial_order (monomials xs)) (sym e) s.ascending;
+  not_zero = subst (λ (xs : List PlainTerm). AllByRecursion (λ u. 0 < unsigned_abs u.coefficient) xs) (sym e) s.not_zero;
+  within = size_below (size_of ts) (size_of us) (subst (λ (xs : List PlainTerm). size_of xs ≤ size_of us) (sym e) s.size);
 }
+
+pub both_ok : {T E : Type 0} (r : Result T E) (P Q R : T → Type 0) → ((x : T) → P x → Q x → R x) → IfOk r P → IfOk r Q → IfOk r R
+both_ok (Ok x) P Q R f p q = f x p q
+both_ok (Err e) P Q R f p q = tt

@@ -7,7 +7,7 @@ use Rattle.std.proofs.lemmas.Int.{ints}
 use Rattle.std.proofs.lemmas.List.Sums.{sum_by-cons}
 use Rattle.std.proofs.lemmas.List.Sorted.{sum_by-IsPermutation}
 use Rattle.symbol_polys.specs.Symbols.{PlainSymbol, monomial_order}
-use Rattle.symbol_polys.specs.Polynomials.{PlainTerm, coefficient_of, size_of}
+use Rattle.symbol_polys.specs.Polynomials.{PlainTerm, coefficient_of, size_of, IsSumOf}
 
 -- a number is the difference of its parts above and below 0
 abbrev above : ℤ → ℕ
@@ -57,3 +57,11 @@ size_sum (t ∷ ts) = omega (arith, sum_by-cons size_at t ts, size_sum ts)
 
 pub size_of-permutation : (ts us : List PlainTerm) → IsPermutation ts us → size_of us ≡ size_of ts
 size_of-permutation ts us h = sym (size_sum us) ∙ sum_by-IsPermutation size_at ts us h ∙ size_sum ts
+
+pub is_sum-permutation : (ts us vs : List PlainTerm) → IsPermutation ts us → IsSumOf us vs → IsSumOf ts vs
+is_sum-permutation ts us vs h s = record {
+  ascending = s.ascending;
+  not_zero = s.not_zero;
+  coefficients = λ m. s.coefficients m ∙ coefficient_of-permutation m ts us h;
+  size = omega (arith, s.size, size_of-permutation ts us h);
+}

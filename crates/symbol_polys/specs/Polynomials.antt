@@ -6,9 +6,10 @@
 --   term_order t u == the order of the monomials of two terms
 --   size_of ts == the sum of the absolute coefficients
 --   IsPolynomial mass ts == the terms ascend, each monomial stands once, no coefficient is 0, and the sum of the absolute coefficients is at most the mass
+--   IsSumOf us ts == ts is the sum of the terms us: it ascends, each monomial stands once, with the coefficient that it has in us, no coefficient is 0, and the sum of the absolute coefficients is at most that of us
 --   times z t, times_all z ts == a term, a list of terms, times the number z
 --   IsRefused too_large e == why a call on polynomials gives no answer: its mass is too large, or memory is wanted
-use Rattle.std.specs.Prelude.{◌≡◌, ℕ, ◌<◌, cond, List, [], ◌∷◌, map, ⊤, ℤ, pos, ◌+ℤ◌, ◌*ℤ◌, ◌≤ℤ◌, unsigned_abs}
+use Rattle.std.specs.Prelude.{◌≡◌, ℕ, ◌<◌, ◌≤◌, cond, List, [], ◌∷◌, map, ⊤, ℤ, pos, ◌+ℤ◌, ◌*ℤ◌, ◌≤ℤ◌, unsigned_abs}
 use Rattle.std.specs.List.{AllByRecursion}
 use Rattle.std.specs.List.Sorted.{IsStrictlySortedBy}
 use Rattle.std.specs.Ordering.{is_eq, on}
@@ -43,6 +44,12 @@ pub record IsPolynomial (mass : ℤ) (ts : List PlainTerm) : Type 0 where
   pub ascending : IsStrictlySortedBy monomial_order (monomials ts)
   pub not_zero : AllByRecursion (λ t. 0 < unsigned_abs t.coefficient) ts
   pub within : pos (size_of ts) ≤ℤ mass
+
+pub record IsSumOf (us ts : List PlainTerm) : Type 0 where
+  pub ascending : IsStrictlySortedBy monomial_order (monomials ts)
+  pub not_zero : AllByRecursion (λ t. 0 < unsigned_abs t.coefficient) ts
+  pub coefficients : HaveSameCoefficients ts us
+  pub size : size_of ts ≤ size_of us
 
 abbrev pub times : ℤ → PlainTerm → PlainTerm
 times z t = record { coefficient = z *ℤ t.coefficient; symbols = t.symbols }

@@ -1,9 +1,10 @@
 // Sums of many terms: they are sorted by their monomials, and those with one monomial are joined.
-ghost use Rattle.std.specs.Prelude.{◌≡◌, ◌≢◌, ◌<◌, ◌+◌, ◌+ℤ◌, unsigned_abs, [], ◌∷◌, ◌++◌, List, map, pos, IfOk, OnOk, IsOkUnless};
+ghost use Rattle.std.specs.Prelude.{◌≡◌, ◌≢◌, ◌<◌, ◌+◌, ◌+ℤ◌, unsigned_abs, [], ◌∷◌, ◌++◌, map, pos, IfOk, OnOk, IsOkUnless};
+ghost use Rattle.std.specs.List.{AllByRecursion};
 ghost use Rattle.std.specs.List.Sorted.{IsSorted};
 ghost use Rattle.exact_sums.specs.Saturating.{overflow};
-ghost use Rattle.symbol_polys.specs.Symbols.{PlainSymbol, IsMonomial};
-ghost use Rattle.symbol_polys.specs.Polynomials.{coefficient_of, size_of, term_order, IsPolynomial};
+ghost use Rattle.symbol_polys.specs.Symbols.{IsMonomial};
+ghost use Rattle.symbol_polys.specs.Polynomials.{monomials, size_of, term_order, HaveSameCoefficients, IsPolynomial, IsSumOf};
 ghost use Rattle.symbol_polys.specs.View.{symbol_of, term_of, terms_of};
 
 use crate::error::PolyError;
@@ -62,13 +63,13 @@ pub(crate) fn put(terms: &mut Vec<OrderedTerm>, term: Term) -> Result<(), AllocE
 }
 
 // Puts a term to the end, unless its coefficient is 0.
-fn close(terms: &mut Items<Term>, term: Term) -> Result<(), PolyError>
-    ensures zero { OnOk result (term.coefficient ≡ pos 0 → terms.new ≡ terms.old) }
-    ensures other { OnOk result (term.coefficient ≢ pos 0 → terms.new ≡ terms.old ++ term ∷ []) }
-    ensures memory { IsOkUnless result PolyError.Memory }
+fn close(terms: &mut Vec<OrderedTerm>, term: Term) -> Result<(), AllocError>
+    requires { IsMonomial (map symbol_of term.symbols) }
+    ensures zero { OnOk result (term.coefficient ≡ pos 0 → terms.new.items ≡ terms.old.items) }
+    ensures other { OnOk result (term.coefficient ≢ pos 0 → terms.new.items ≡ terms.old.items ++ term_of term ∷ []) }
 {
     if term.coefficient != 0 {
-        terms.push(term)?;
+        put(terms, term)?;
     }
     Ok(())
 }
@@ -82,14 +83,13 @@ fn add_to(sum: &mut Term, term: &Term)
 }
 
 // Joins neighbours with equal monomials, and leaves out what cancels. The first sum that is open is 0 times the monomial 1.
-fn joined(alloc: Global, sorted: Vec<OrderedTerm>) -> Result<Items<Term>, PolyError>
+fn joined(alloc: Global, sorted: Vec<OrderedTerm>) -> Result<Vec<OrderedTerm>, PolyError>
     requires sorted { IsSorted term_order sorted.items }
     requires size { size_of sorted.items < overflow }
-    ensures poly { IfOk result (λ ts. IsPolynomial (pos (size_of sorted.items)) (terms_of ts)) }
-    ensures coefficients { IfOk result (λ ts. (m : List PlainSymbol) → coefficient_of m (terms_of ts) ≡ coefficient_of m sorted.items) }
+    ensures sum { IfOk result (λ v. IsSumOf sorted.items v.items) }
     ensures memory { IsOkUnless result PolyError.Memory }
 {
-    let mut terms = Items::new(alloc);
+    let mut terms = Vec::new(alloc);
     let mut open = Term {
         coefficient: 0,
         symbols: Items::new(alloc),
@@ -108,14 +108,38 @@ fn joined(alloc: Global, sorted: Vec<OrderedTerm>) -> Result<Items<Term>, PolyEr
     Ok(terms)
 }
 
-/// The sum of many terms, as the terms of a polynomial.
-pub(crate) fn collected(alloc: Global, terms: Vec<OrderedTerm>) -> Result<Items<Term>, PolyError>
+/// The sum of many terms.
+pub(crate) fn simplified(
+    alloc: Global,
+    terms: Vec<OrderedTerm>,
+) -> Result<Vec<OrderedTerm>, PolyError>
     requires { size_of terms.items < overflow }
-    ensures poly { IfOk result (λ ts. IsPolynomial (pos (size_of terms.items)) (terms_of ts)) }
-    ensures coefficients { IfOk result (λ ts. (m : List PlainSymbol) → coefficient_of m (terms_of ts) ≡ coefficient_of m terms.items) }
+    ensures sum { IfOk result (λ v. IsSumOf terms.items v.items) }
     ensures memory { IsOkUnless result PolyError.Memory }
 {
     let mut sorted = terms;
     sorted.sort_unstable_by(|t, u| t.order(u));
     joined(alloc, sorted)
+}
+
+fn bare_terms(alloc: Global, terms: Vec<OrderedTerm>) -> Result<Items<Term>, PolyError>
+    ensures terms { IfOk result (λ ts. terms_of ts ≡ terms.items) }
+    ensures each { IfOk result (λ ts. AllByRecursion IsMonomial (monomials (terms_of ts))) }
+    ensures memory { IsOkUnless result PolyError.Memory }
+{
+    let mut bare = Items::new(alloc);
+    for term in terms {
+        bare.push(term.into_term())?;
+    }
+    Ok(bare)
+}
+
+/// The sum of many terms, as the terms of a polynomial.
+pub(crate) fn collected(alloc: Global, terms: Vec<OrderedTerm>) -> Result<Items<Term>, PolyError>
+    requires { size_of terms.items < overflow }
+    ensures poly { IfOk result (λ ts. IsPolynomial (pos (size_of terms.items)) (terms_of ts)) }
+    ensures coefficients { IfOk result (λ ts. HaveSameCoefficients (terms_of ts) terms.items) }
+    ensures memory { IsOkUnless result PolyError.Memory }
+{
+    bare_terms(alloc, simplified(alloc, terms)?)
 }

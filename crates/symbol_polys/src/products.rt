@@ -3,11 +3,11 @@ ghost use Rattle.std.specs.Prelude.{◌≡◌, ◌<◌, ◌≤◌, ◌*◌, pos,
 ghost use Rattle.std.specs.List.{AllByRecursion};
 ghost use Rattle.exact_sums.specs.Saturating.{overflow};
 ghost use Rattle.symbol_polys.specs.Symbols.{PlainSymbol, IsMonomial};
-ghost use Rattle.symbol_polys.specs.Polynomials.{coefficient_of, monomials, size_of, IsRefused};
+ghost use Rattle.symbol_polys.specs.Polynomials.{coefficient_of, monomials, size_of, HaveSameCoefficients, IsRefused};
 ghost use Rattle.symbol_polys.specs.Products.{monomial_product, term_product, products_with, products};
 ghost use Rattle.symbol_polys.specs.View.{symbol_of, term_of, terms_of, IsPoly};
 
-use crate::collecting::{OrderedTerm, collected, put};
+use crate::collecting::{OrderedTerm, collected, put, simplified};
 use crate::error::PolyError;
 use crate::masses::mass_product;
 use crate::poly::{Poly, Term, made, multiple};
@@ -76,23 +76,34 @@ fn push_products(
     Ok(())
 }
 
-// All products of a term of the first list with one of the second.
+// So many products are kept before they are simplified for the first time.
+const FEW: usize = 4096;
+
+// Terms with the sum of all products of a term of the first list with one of the second. They are simplified whenever they have become twice as many as they
+// were then, so that they are at most a few times as many as the terms that are left.
 fn all_products(alloc: Global, ts: &[Term], us: &[Term]) -> Result<Vec<OrderedTerm>, PolyError>
     requires ts { AllByRecursion IsMonomial (monomials (terms_of ts.now)) }
     requires us { AllByRecursion IsMonomial (monomials (terms_of us.now)) }
     requires fits { size_of (terms_of ts.now) * size_of (terms_of us.now) < overflow }
-    ensures items { IfOk result (λ v. v.items ≡ products (terms_of ts.now) (terms_of us.now)) }
+    ensures size { IfOk result (λ v. size_of v.items ≤ size_of (terms_of ts.now) * size_of (terms_of us.now)) }
+    ensures coefficients { IfOk result (λ v. HaveSameCoefficients v.items (products (terms_of ts.now) (terms_of us.now))) }
     ensures memory { IsOkUnless result PolyError.Memory }
 {
     let mut terms = Vec::new(alloc);
+    let mut most = FEW;
     for t in ts {
         push_products(alloc, &mut terms, t, us)?;
+        if terms.len() > most {
+            terms = simplified(alloc, terms)?;
+            most = most.max(terms.len().saturating_mul(2));
+        }
     }
     Ok(terms)
 }
 
 /// The product of two polynomials. The new mass is the product of the masses, also where terms cancel. Fails with `CoefficientTooLarge` exactly where the new
-/// mass passes 2^127-1, and for want of memory. Takes memory for each product of two terms.
+/// mass passes 2^127-1, and for want of memory. Takes memory for a few
+/// times as many terms as the product has, or as are met on the way.
 pub fn mul(alloc: Global, f: &Poly, g: &Poly) -> Result<Poly, PolyError>
     requires f { IsPoly f.now }
     requires g { IsPoly g.now }

@@ -1,26 +1,14 @@
-use Rattle.std.proofs.Common.{rules, is_lt, ◌∙◌, ℕ, pos, subst, arith, IfOk}
-use Rattle.std.proofs.lemmas.List.Sorted.{ranks_by}
-use Rattle.std.proofs.lemmas.Fn.{always_returns_same}
+use Rattle.std.proofs.Common.{ap, ◌∙◌, List}
 use Rattle.std.proofs.lemmas.Result.{IfOk-weaker}
-use Rattle.symbol_polys.specs.Polynomials.{PlainTerm, term_order, IsPolynomial}
+use Rattle.symbol_polys.specs.Polynomials.{PlainTerm, coefficient_of}
 use Rattle.symbol_polys.specs.View.{terms_of}
-use Rattle.symbol_polys.proofs.SymbolLaws.{term_order_total}
-use Rattle.symbol_polys.proofs.PermutedLaws.{coefficient_of-permutation, size_of-permutation}
+use Rattle.symbol_polys.proofs.JoinLaws.{is_polynomial-sum, both_ok}
 use Rattle.symbol_polys.proofs.collecting.collected.Goals as goal
-
-pub joined-requires-clause-sorted : goal.joined-requires-clause-sorted
-joined-requires-clause-sorted c =
-    c.sort_unstable_by.ensures.sorted (λ t u. is_lt (term_order t u)) (ranks_by term_order_total (λ (t : PlainTerm). t)) (always_returns_same _ _ _ (λ a r f k. search rules))
-
-pub joined-requires-clause-size : goal.joined-requires-clause-size
-joined-requires-clause-size c = omega (arith, c.requires, size_of-permutation c.args.terms.items c.sort_unstable_by.new.self.items c.sort_unstable_by.ensures.permutation)
 
 pub returns-clause-poly : goal.returns-clause-poly
 returns-clause-poly c =
-    subst (λ (n : ℕ). IfOk c.joined.result (λ ts. IsPolynomial (pos n) (terms_of ts)))
-    (size_of-permutation c.args.terms.items c.sort_unstable_by.new.self.items c.sort_unstable_by.ensures.permutation) c.joined.ensures.poly
+    both_ok c.bare_terms.result _ _ _ (λ ts e a. is_polynomial-sum c.args.terms.items c.in_ok-simplified.field-0.items (terms_of ts) c.in_ok-simplified.ensures.sum e a) c.bare_terms.ensures.terms c.bare_terms.ensures.each
 
 pub returns-clause-coefficients : goal.returns-clause-coefficients
 returns-clause-coefficients c =
-    IfOk-weaker c.joined.result _ _
-    (λ ts h m. h m ∙ coefficient_of-permutation m c.args.terms.items c.sort_unstable_by.new.self.items c.sort_unstable_by.ensures.permutation) c.joined.ensures.coefficients
+    IfOk-weaker c.bare_terms.result _ _ (λ ts e m. ap (λ (us : List PlainTerm). coefficient_of m us) e ∙ c.in_ok-simplified.ensures.sum.coefficients m) c.bare_terms.ensures.terms
