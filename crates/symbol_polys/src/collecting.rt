@@ -108,7 +108,7 @@ fn joined(alloc: Global, sorted: Vec<OrderedTerm>) -> Result<Vec<OrderedTerm>, P
     Ok(terms)
 }
 
-/// The sum of many terms.
+/// The sum of many terms. The terms of a polynomial ascend, and so do the products of a term with them: the stable sort merges such runs.
 pub(crate) fn simplified(
     alloc: Global,
     terms: Vec<OrderedTerm>,
@@ -118,7 +118,7 @@ pub(crate) fn simplified(
     ensures memory { IsOkUnless result PolyError.Memory }
 {
     let mut sorted = terms;
-    sorted.sort_unstable_by(|t, u| t.order(u));
+    sorted.sort_by(|t, u| t.order(u))?;
     joined(alloc, sorted)
 }
 
