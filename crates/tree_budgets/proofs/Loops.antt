@@ -1,25 +1,14 @@
 -- What a loop over a list keeps of the members that it has passed.
-use Rattle.std.proofs.Common.{◌≡◌, ℕ, zero, suc, ◌+◌, ◌<◌, List, [], ◌∷◌, length, take, get_or, refl, sym, subst, inl, inr, ◌∙◌, ◌≤◌, arith}
+use Rattle.std.proofs.Common.{◌≡◌, ℕ, zero, suc, ◌+◌, ◌<◌, ◌≤◌, List, [], ◌∷◌, length, take, get_or, refl, sym, subst, inl, inr, ◌∙◌, arith}
+use Rattle.std.specs.List.{All}
 use Rattle.std.proofs.lemmas.List.{take_all}
+use Rattle.std.proofs.lemmas.List.Elements.{All-cons, All-more, All-nil}
 use Rattle.ordered_lists.specs.Members.{IsIn}
 use Rattle.normal_rule.specs.declared.EdgeType.{EdgeType}
-use Rattle.std.specs.List.{All}
-use Rattle.std.proofs.lemmas.List.Elements.{All-tail}
-
-all_cons : {X : Type 0} (P : X → Type 0) (x : X) (xs : List X) → P x → All P xs → All P (x ∷ xs)
-all_cons P x xs h k zero d lt = h
-all_cons P x xs h k (suc i) d lt = k i d (omega (arith, lt))
-
-pub all_more : {X : Type 0} (P : X → Type 0) (xs : List X) (i : ℕ) (d : X) → i < length xs → All P (take i xs) → P (get_or xs i d) → All P (take (i + 1) xs)
-all_more P [] i d lt h k = absurd (omega (arith, lt))
-all_more P (x ∷ xs) zero d lt h k = all_cons P x [] k (λ j e l. absurd (omega (arith, l)))
-all_more P (x ∷ xs) (suc i) d lt h k =
-    let next : suc i + 1 ≡ suc (i + 1) = omega arith in
-    rw next (all_cons P x (take (i + 1) xs) (h 0 x (omega arith)) (all_more P xs i d (omega (arith, lt)) (All-tail P x (take i xs) h) k))
 
 -- one step of the loop, with the member that it reads
 pub all_step : {X : Type 0} (P : X → Type 0) (xs : List X) (i : ℕ) (x d : X) → i < length xs → x ≡ get_or xs i d → All P (take i xs) → P x → All P (take (i + 1) xs)
-all_step P xs i x d lt is h k = all_more P xs i d lt h (subst P is k)
+all_step P xs i x d lt is h k = All-more P xs i d lt h (subst P is k)
 
 -- its end, over the list that the items are read from
 pub all_done : {X : Type 0} (P : X → Type 0) (xs ys : List X) (i : ℕ) → length xs ≤ i → xs ≡ ys → All P (take i xs) → All P ys
@@ -36,8 +25,8 @@ read_member {X} xs ys i x d lt is same = subst (IsIn x) same (member xs i lt is)
 
 -- what holds of each member
 pub all_from_members : {X : Type 0} (P : X → Type 0) (xs : List X) → ((x : X) → IsIn x xs → P x) → All P xs
-all_from_members P [] h = λ i d lt. absurd (omega (arith, lt))
-all_from_members P (x ∷ xs) h = all_cons P x xs (h x (inl refl)) (all_from_members P xs (λ y m. h y (inr m)))
+all_from_members P [] h = All-nil P
+all_from_members P (x ∷ xs) h = All-cons P x xs (h x (inl refl)) (all_from_members P xs (λ y m. h y (inr m)))
 
 abbrev pub no_edge : EdgeType
 no_edge = record { kind = record { 0 = 0 }; p = record { entries = [] } }

@@ -1,3 +1,4 @@
 pub mod Bounds
+pub mod Entries
 pub mod Fronts
 pub mod Plan

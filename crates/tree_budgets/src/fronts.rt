@@ -59,7 +59,8 @@ pub(crate) fn extending(node: &NodeType, end: &[EdgeType]) -> Option<EdgeType>
 {
     let edges = node.edges.as_slice();
     match front(edges, end) {
+        None => None,
         Some([edge]) if is_usable(edges) => Some(*edge),
-        _ => None,
+        Some(_) => None,
     }
 }

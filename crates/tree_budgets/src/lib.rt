@@ -2,6 +2,7 @@
 #![tactic(auto)]
 
 mod bounds;
+mod directions;
 mod fronts;
 mod lows;
 mod mosts;
@@ -9,4 +10,5 @@ mod plan;
 mod rows;
 mod sums;
 
+pub use directions::normal_rule_is_rule;
 pub use plan::{Extension, PlanNode, RowPlan, RulePlan, rule_plan};
