@@ -1,0 +1,105 @@
+-- The items of the file that is written for types are read as they were written.
+use Rattle.std.proofs.Common.{◌≡◌, ◌≢◌, ℕ, zero, suc, ◌+◌, ◌<◌, ◌≤◌, Bool, true, false, not, nat_lt, List, [], ◌∷◌, ◌++◌, length, map, pos, cond, Option, Some, None, Ok, arith, refl, ap, sym, subst, ◌∙◌, append_assoc, append-nil}
+use Rattle.std.specs.Prelude.{Result, codes}
+use Rattle.std.specs.List.{AllByRecursion}
+use Rattle.std.specs.Str.{bytes_eq}
+use Rattle.std.proofs.lemmas.Bool.{lt-ltb, le-ltb}
+use Rattle.std.proofs.lemmas.Slice.Eq.{bytes_eq-Decides}
+use Rattle.toml.specs.Data.{Data, integer}
+use Rattle.degree_numbers.specs.declared.types.TypeEntry.{TypeEntry}
+use Rattle.degree_numbers.specs.DegreeText.{Written, written_of}
+use Rattle.degree_numbers.specs.Name.{is_name}
+use Rattle.degree_numbers.specs.Types.{AreDifferent}
+use Rattle.equation_document.specs.declared.document.NoiseEntry.{NoiseEntry}
+use Rattle.equation_document.specs.declared.document.UnknownEntry.{UnknownEntry}
+use Rattle.equation_document.specs.declared.names.Names.{Names}
+use Rattle.equation_document.specs.DegreeEntry.{is_positive, is_standard}
+use Rattle.equation_document.specs.Names.{place_of, stands_in}
+use Rattle.equation_document.specs.Reading.{number_of, numbers_from, new_name, table_of, text_of, name_of, degree_of, group_of, noise_of, noises_from, positive_of, standard_of, unknown_of, unknowns_from, right_of, rights_from}
+use Rattle.right_side_text.specs.Grammar.{right_side}
+use Rattle.right_side_text.specs.declared.written.WrittenTerm.{WrittenTerm}
+use Rattle.text_parts.specs.Reading.{skip}
+use Rattle.type_contexts.specs.Context.{name_at}
+use Rattle.types_of_files.specs.Written.{noise_data, unknown_data, items_by}
+
+pub numbers_read : (ns : List ℕ) (at : ℕ) (found : List ℕ) → AllByRecursion (λ n. 0 < n) ns → numbers_from at found (items_by (λ n. integer (pos n)) ns) ≡ Ok (found ++ ns)
+unfolding numbers_from number_of
+numbers_read [] at found h = ap Ok (sym (append-nil found))
+numbers_read (n ∷ ns) at found h = rw (lt-ltb 0 n h.0) (numbers_read ns (at + 1) (found ++ n ∷ []) h.1 ∙ ap Ok (append_assoc found (n ∷ []) ns))
+
+-- a name that differs from all is not there
+not_same : (a b : List ℕ) → a ≢ b → bytes_eq a b ≡ false
+not_same a b other =
+    (elim (bytes_eq a b) as (λ t. bytes_eq a b ≡ t → t ≡ false) [
+      | true ↦ λ e. absurd (other ((bytes_eq-Decides a b).0 e))
+      | false ↦ λ e. refl
+    ]) refl
+
+place_behind : (names : List (List ℕ)) (name : List ℕ) → AllByRecursion (λ m. m ≢ name) names → place_of names name ≡ length names
+place_behind [] name h = refl
+place_behind (m ∷ names) name h = ap (λ b. cond (not b) (1 + place_of names name) 0) (not_same m name h.0) ∙ (let more = place_behind names name h.1 in omega (arith, more))
+
+not_there : (names : List (List ℕ)) (name : List ℕ) → AllByRecursion (λ m. m ≢ name) names → stands_in names name ≡ false
+not_there names name h = le-ltb (place_of names name) (length names) (let place = place_behind names name h in omega (arith, place))
+
+all_after : {A : Type 0} (P : A → Type 0) (xs : List A) (y : A) (ys : List A) → AllByRecursion P (xs ++ y ∷ ys) → P y
+all_after P [] y ys h = h.0
+all_after P (x ∷ xs) y ys h = all_after P xs y ys h.1
+
+others : (seen : List (List ℕ)) (n : List ℕ) (ns : List (List ℕ)) → AreDifferent (seen ++ n ∷ ns) → AllByRecursion (λ m. m ≢ n) seen
+others [] n ns h = tt
+others (m ∷ seen) n ns h = ((λ e. all_after (λ o. o ≢ m) seen n ns h.0 (sym e)), others seen n ns h.1)
+
+-- how an entry is written
+pub record IsWrittenAs (t : TypeEntry → List ℕ) (w : TypeEntry → Written) (e : TypeEntry) : Type 0 where
+  pub name : is_name e.name ≡ true
+  pub read : written_of (t e) ≡ Some (w e)
+
+abbrev pub noise_entry : (TypeEntry → Written) → List (List ℕ) → TypeEntry → NoiseEntry
+noise_entry w groups e = record { name = e.name; degree = w e; group = name_at groups e.group }
+
+noise_read : (t : TypeEntry → List ℕ) (w : TypeEntry → Written) (groups : List (List ℕ)) (at : ℕ) (seen : List (List ℕ)) (e : TypeEntry) → IsWrittenAs t w e → is_name (name_at groups e.group) ≡ true → stands_in seen e.name ≡ false → noise_of at seen (noise_data t groups e) ≡ Ok (noise_entry w groups e)
+unfolding noise_of table_of name_of text_of new_name degree_of group_of
+noise_read t w groups at seen e h group new = rw (h.name, new, h.read, group) refl
+
+pub noises_read : (t : TypeEntry → List ℕ) (w : TypeEntry → Written) (groups : List (List ℕ)) (es : List TypeEntry) (at : ℕ) (seen : List (List ℕ)) (found : List NoiseEntry) (more : List (List ℕ)) → AllByRecursion (IsWrittenAs t w) es → AllByRecursion (λ e. is_name (name_at groups e.group) ≡ true) es → AreDifferent (seen ++ (map (λ e. e.name) es ++ more)) → noises_from at seen found (items_by (noise_data t groups) es) ≡ Ok (seen ++ map (λ e. e.name) es, found ++ map (noise_entry w groups) es)
+unfolding noises_from
+noises_read t w groups [] at seen found more h g d = rw (append-nil seen, append-nil found) refl
+noises_read t w groups (e ∷ es) at seen found more h g d =
+    let names = map (λ (x : TypeEntry). x.name) es in
+    rw (noise_read t w groups at seen e h.0 g.0 (not_there seen e.name (others seen e.name (names ++ more) d)))
+    (noises_read t w groups es (at + 1) (seen ++ e.name ∷ []) (found ++ noise_entry w groups e ∷ []) more h.1 g.1 (subst AreDifferent (sym (append_assoc seen (e.name ∷ []) (names ++ more))) d)
+    ∙ rw (append_assoc seen (e.name ∷ []) names, append_assoc found (noise_entry w groups e ∷ []) (map (noise_entry w groups) es)) refl)
+
+abbrev pub unknown_entry : (TypeEntry → Written) → Written → TypeEntry → UnknownEntry
+unknown_entry w regularity e = record { name = e.name; degree = w e; regularity = regularity }
+
+unknown_read : (t : TypeEntry → List ℕ) (w : TypeEntry → Written) (zero_text : List ℕ) (zero_read : Written) (at : ℕ) (seen : List (List ℕ)) (e : TypeEntry) → IsWrittenAs t w e → is_positive (w e) ≡ true → written_of zero_text ≡ Some zero_read → is_standard zero_read ≡ true → stands_in seen e.name ≡ false → unknown_of at seen (unknown_data t zero_text e) ≡ Ok (unknown_entry w zero_read e)
+unfolding unknown_of table_of name_of text_of new_name degree_of positive_of standard_of
+unknown_read t w zero_text zero_read at seen e h above z standard new = rw (h.name, new, h.read, above, z, standard) refl
+
+pub unknowns_read : (t : TypeEntry → List ℕ) (w : TypeEntry → Written) (zero_text : List ℕ) (zero_read : Written) (es : List TypeEntry) (at : ℕ) (seen : List (List ℕ)) (found : List UnknownEntry) → AllByRecursion (IsWrittenAs t w) es → AllByRecursion (λ e. is_positive (w e) ≡ true) es → written_of zero_text ≡ Some zero_read → is_standard zero_read ≡ true → AreDifferent (seen ++ map (λ e. e.name) es) → unknowns_from at seen found (items_by (unknown_data t zero_text) es) ≡ Ok (seen ++ map (λ e. e.name) es, found ++ map (unknown_entry w zero_read) es)
+unfolding unknowns_from
+unknowns_read t w zero_text zero_read [] at seen found h p z s d = rw (append-nil seen, append-nil found) refl
+unknowns_read t w zero_text zero_read (e ∷ es) at seen found h p z s d =
+    let names = map (λ (x : TypeEntry). x.name) es in
+    rw (unknown_read t w zero_text zero_read at seen e h.0 p.0 z s (not_there seen e.name (others seen e.name names d)))
+    (unknowns_read t w zero_text zero_read es (at + 1) (seen ++ e.name ∷ []) (found ++ unknown_entry w zero_read e ∷ []) h.1 p.1 z s (subst AreDifferent (sym (append_assoc seen (e.name ∷ []) names)) d)
+    ∙ rw (append_assoc seen (e.name ∷ []) names, append_assoc found (unknown_entry w zero_read e ∷ []) (map (unknown_entry w zero_read) es)) refl)
+
+empty_right : (dims : ℕ) → right_side dims [] ≡ Some []
+unfolding right_side skip
+empty_right dims = refl
+
+right_read : (t : TypeEntry → List ℕ) (zero_text : List ℕ) (names : Names) (dims at : ℕ) (e : TypeEntry) → right_of names dims at (unknown_data t zero_text e) ≡ Ok []
+unfolding right_of text_of
+right_read t zero_text names dims at e = rw (empty_right dims) refl
+
+abbrev pub no_terms : TypeEntry → List WrittenTerm
+no_terms e = []
+
+pub rights_read : (t : TypeEntry → List ℕ) (zero_text : List ℕ) (names : Names) (dims : ℕ) (es : List TypeEntry) (at : ℕ) (found : List (List WrittenTerm)) → rights_from names dims at found (items_by (unknown_data t zero_text) es) ≡ Ok (found ++ map no_terms es)
+unfolding rights_from
+rights_read t zero_text names dims [] at found = rw (append-nil found) refl
+rights_read t zero_text names dims (e ∷ es) at found =
+    rw (right_read t zero_text names dims at e) (rights_read t zero_text names dims es (at + 1) (found ++ [] ∷ []) ∙ rw (append_assoc found ([] ∷ []) (map no_terms es)) refl)

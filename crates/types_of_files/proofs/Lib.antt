@@ -1,0 +1,6 @@
+pub mod FileRead
+pub mod ItemsRead
+pub mod LimitsKept
+pub mod TypesBack
+pub mod TypesWritten
+pub mod WrittenBack
