@@ -1,13 +1,12 @@
 -- The file that is written for types is accepted.
-use Rattle.std.proofs.Common.{◌≡◌, ℕ, zero, suc, ◌<◌, ◌≤◌, true, List, [], ◌∷◌, ◌++◌, length, map, take, pos, Some, Ok, arith, refl, ap, sym, subst, ◌∙◌}
-use Rattle.std.specs.Prelude.{codes}
+use Rattle.std.proofs.Common.{◌≡◌, ℕ, ◌<◌, true, List, [], ◌∷◌, ◌++◌, length, map, take, pos, Some, Ok, arith, refl}
 use Rattle.std.specs.List.{AllByRecursion}
-use Rattle.toml.specs.Data.{Data, Items, integer}
+use Rattle.toml.specs.Data.{Data, integer}
 use Rattle.degree_numbers.specs.declared.types.TypeEntry.{TypeEntry}
 use Rattle.degree_numbers.specs.declared.types.Types.{Types}
 use Rattle.degree_numbers.specs.DegreeText.{Written, written_of}
 use Rattle.degree_numbers.specs.Name.{is_name}
-use Rattle.degree_numbers.specs.Types.{noises, kernels, AreDifferent, AreTypes}
+use Rattle.degree_numbers.specs.Types.{noises, kernels, AreDifferent}
 use Rattle.equation_document.specs.declared.document.Document.{Document}
 use Rattle.equation_document.specs.declared.fault.Section.{Section}
 use Rattle.equation_document.specs.declared.fault.Section.TheVariants as sections
@@ -16,8 +15,8 @@ use Rattle.equation_document.specs.File.{accepted}
 use Rattle.equation_document.specs.Limits.{limits_of}
 use Rattle.equation_document.specs.Reading.{some_items, version_of, list_of, parameters_of, noises_of, unknown_part, document_of}
 use Rattle.type_contexts.specs.Context.{name_at}
-use Rattle.types_of_files.specs.Written.{noise_data, unknown_data, items_by, file_of}
-use Rattle.types_of_files.proofs.ItemsRead.{IsWrittenAs, noise_entry, unknown_entry, no_terms, numbers_read, noises_read, unknowns_read, rights_read}
+use Rattle.types_of_files.proofs.WrittenFile.{unknown_data, items_by, file_of}
+use Rattle.types_of_files.proofs.ItemsRead.{IsWrittenAs, numbers_read, noises_read, unknowns_read, rights_read}
 use Rattle.types_of_files.proofs.LimitsKept.{document_by}
 
 some_read : {A : Type 0} (s : Section) (f : A → Data) (xs : List A) → 0 < length xs → some_items s (items_by f xs) ≡ Ok (items_by f xs)

@@ -1,11 +1,10 @@
 -- The items of the file that is written for types are read as they were written.
-use Rattle.std.proofs.Common.{◌≡◌, ◌≢◌, ℕ, zero, suc, ◌+◌, ◌<◌, ◌≤◌, Bool, true, false, not, nat_lt, List, [], ◌∷◌, ◌++◌, length, map, pos, cond, Option, Some, None, Ok, arith, refl, ap, sym, subst, ◌∙◌, append_assoc, append-nil}
-use Rattle.std.specs.Prelude.{Result, codes}
+use Rattle.std.proofs.Common.{◌≡◌, ◌≢◌, ℕ, ◌+◌, ◌<◌, true, false, not, List, [], ◌∷◌, ◌++◌, length, map, pos, cond, Some, Ok, arith, refl, ap, sym, subst, ◌∙◌, append_assoc, append-nil}
 use Rattle.std.specs.List.{AllByRecursion}
 use Rattle.std.specs.Str.{bytes_eq}
 use Rattle.std.proofs.lemmas.Bool.{lt-ltb, le-ltb}
 use Rattle.std.proofs.lemmas.Slice.Eq.{bytes_eq-Decides}
-use Rattle.toml.specs.Data.{Data, integer}
+use Rattle.toml.specs.Data.{integer}
 use Rattle.degree_numbers.specs.declared.types.TypeEntry.{TypeEntry}
 use Rattle.degree_numbers.specs.DegreeText.{Written, written_of}
 use Rattle.degree_numbers.specs.Name.{is_name}
@@ -20,7 +19,7 @@ use Rattle.right_side_text.specs.Grammar.{right_side}
 use Rattle.right_side_text.specs.declared.written.WrittenTerm.{WrittenTerm}
 use Rattle.text_parts.specs.Reading.{skip}
 use Rattle.type_contexts.specs.Context.{name_at}
-use Rattle.types_of_files.specs.Written.{noise_data, unknown_data, items_by}
+use Rattle.types_of_files.proofs.WrittenFile.{noise_data, unknown_data, items_by}
 
 pub numbers_read : (ns : List ℕ) (at : ℕ) (found : List ℕ) → AllByRecursion (λ n. 0 < n) ns → numbers_from at found (items_by (λ n. integer (pos n)) ns) ≡ Ok (found ++ ns)
 unfolding numbers_from number_of

@@ -4,3 +4,4 @@ pub mod LimitsKept
 pub mod TypesBack
 pub mod TypesWritten
 pub mod WrittenBack
+pub mod WrittenFile

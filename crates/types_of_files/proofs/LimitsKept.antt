@@ -1,12 +1,10 @@
 -- The file that is written for types passes no limit.
-use Rattle.std.proofs.Common.{◌≡◌, ℕ, zero, suc, ◌+◌, ◌-◌, ◌*◌, ◌/◌, ◌%◌, ◌<◌, ◌≤◌, Bool, true, false, true≢false, not, nat_lt, List, [], ◌∷◌, ◌++◌, length, map, fold, get_or, Option, Some, None, Ok, arith, refl, ap, sym, subst, ◌∙◌}
-use Rattle.std.specs.Prelude.{Result, ⊤}
-use Rattle.std.specs.Option.{option_or}
+use Rattle.std.proofs.Common.{◌≡◌, ℕ, ◌+◌, ◌-◌, ◌*◌, ◌/◌, ◌%◌, ◌<◌, ◌≤◌, true, false, true≢false, not, nat_lt, List, [], ◌∷◌, ◌++◌, length, map, fold, get_or, Option, None, Ok, arith, refl, ap, sym, subst, ◌∙◌}
 use Rattle.std.specs.List.{AllByRecursion, prefix_len, range_with_len}
 use Rattle.std.proofs.lemmas.Bool.{le-ltb, ltb-true, ltb-false}
 use Rattle.std.proofs.lemmas.List.{length-map}
-use Rattle.std.proofs.lemmas.List.FromFn.{length-range_with_len, get_or-range_with_len}
-use Rattle.std.proofs.lemmas.List.Sums.{prefix_len-le-length, prefix_len_passes}
+use Rattle.std.proofs.lemmas.List.FromFn.{get_or-range_with_len}
+use Rattle.std.proofs.lemmas.List.Sums.{prefix_len_passes}
 use Rattle.std.proofs.Math.Nat.{div-add-mod, mul-le-mul_left}
 use Rattle.text_parts.specs.Reading.{most}
 use Rattle.degree_numbers.specs.declared.types.TypeEntry.{TypeEntry}
@@ -15,12 +13,10 @@ use Rattle.degree_numbers.specs.Fraction.{Fraction, Clears, ClearsAll}
 use Rattle.right_side_text.specs.declared.written.WrittenFraction.{WrittenFraction}
 use Rattle.right_side_text.specs.declared.written.WrittenTerm.{WrittenTerm}
 use Rattle.equation_document.specs.declared.document.Document.{Document}
-use Rattle.equation_document.specs.declared.document.NoiseEntry.{NoiseEntry}
-use Rattle.equation_document.specs.declared.document.UnknownEntry.{UnknownEntry}
 use Rattle.equation_document.specs.DegreeEntry.{written, rounded_up, degree_size}
 use Rattle.equation_document.specs.Denominator.{clears_all, least_within, least_common}
 use Rattle.equation_document.specs.FirstOf.{over, first_of}
-use Rattle.equation_document.specs.Limits.{with_fractions, noise_fractions, unknown_fractions, with_coefficients, units_of, denominator_of, counts_of, numbers_of, rights_of, limits_of, degree_fractions, coefficients, file_number, file_size, noise_number, unknown_number, noise_size, unknown_size, right_terms}
+use Rattle.equation_document.specs.Limits.{with_fractions, noise_fractions, unknown_fractions, with_coefficients, units_of, denominator_of, counts_of, numbers_of, rights_of, limits_of, degree_fractions, noise_number, unknown_number, noise_size, unknown_size, right_terms}
 use Rattle.equation_document.specs.Terms.{term_number, term_factors, term_derivative}
 use Rattle.equation_document.proofs.LeastCommon.{plain, cleared}
 use Rattle.types_of_files.proofs.ItemsRead.{noise_entry, unknown_entry, no_terms}

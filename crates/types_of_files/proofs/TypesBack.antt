@@ -1,24 +1,19 @@
 -- The types of the file that is written for types are the same types.
-use Rattle.std.proofs.Common.{◌≡◌, ℕ, zero, suc, ◌+◌, ◌<◌, ◌≤◌, true, ℤ, pos, ◌<ℤ◌, unsigned_abs, List, [], ◌∷◌, ◌++◌, length, map, take, drop, fold, Ok, arith, refl, ap, sym, subst, ◌∙◌}
+use Rattle.std.proofs.Common.{◌≡◌, ℕ, ◌+◌, ◌<◌, ◌≤◌, unsigned_abs, List, [], ◌∷◌, ◌++◌, length, map, take, fold, arith, refl, ap, sym, subst, ◌∙◌}
 use Rattle.std.proofs.Math.Logic.{inl, inr}
 use Rattle.std.proofs.Math.Seq.{take-length}
-use Rattle.std.specs.Prelude.{◌⊎◌, if◌then◌else◌}
+use Rattle.std.specs.Prelude.{if◌then◌else◌}
 use Rattle.std.specs.List.{AllByRecursion, AllZip}
 use Rattle.std.proofs.lemmas.List.{length-take, take-append-drop}
-use Rattle.toml.specs.Data.{Members}
-use Rattle.degree_numbers.specs.declared.types.Kind.{Kind}
 use Rattle.degree_numbers.specs.declared.types.Kind.TheVariants.{Noise, Kernel}
 use Rattle.degree_numbers.specs.declared.types.TypeEntry.{TypeEntry}
 use Rattle.degree_numbers.specs.declared.types.Types.{Types}
 use Rattle.degree_numbers.specs.declared.degree.Degree.{Degree}
-use Rattle.degree_numbers.specs.Degree.{degree_zero}
 use Rattle.degree_numbers.specs.DegreeText.{Written}
-use Rattle.degree_numbers.specs.Name.{is_name}
-use Rattle.degree_numbers.specs.Types.{noise_count, noises, kernels, IsScaling, IsNoiseEntry, IsKernelEntry, IsWritable, AreDifferent, AreInOrder, AreTypes}
+use Rattle.degree_numbers.specs.Types.{noise_count, noises, kernels, AreDifferent, AreInOrder, AreTypes}
 use Rattle.degree_numbers.specs.Fraction.{under_sign}
 use Rattle.degree_numbers.specs.Written.{in_units_of}
-use Rattle.degree_numbers.proofs.InUnits.{lowest_exists}
-use Rattle.degree_numbers.proofs.TypeBounds.{all_weaker, den_small}
+use Rattle.degree_numbers.proofs.TypeBounds.{all_weaker}
 use Rattle.equation_document.specs.declared.document.Document.{Document}
 use Rattle.equation_document.specs.Limits.{units_of, degree_fractions}
 use Rattle.equation_document.specs.Names.{place_of, stands_in}
@@ -27,11 +22,9 @@ use Rattle.equation_file.specs.Meaning.{with_group, groups_of, noise_type, kerne
 use Rattle.equation_file.proofs.ClearedDegrees.{AreCleared, units_clear}
 use Rattle.type_contexts.specs.Context.{name_at}
 use Rattle.type_contexts.specs.Same.{IsSameFraction, IsSameEntry, AreSameTypes}
-use Rattle.type_contexts.proofs.DraftsRead.{IsReadable}
-use Rattle.type_contexts.proofs.FileTypes.{types_readable}
-use Rattle.type_contexts.proofs.Groups.{stands_before, not_yet, one_more_name, place_whole, named_at}
-use Rattle.type_contexts.proofs.SameNumbers.{same_trans, size_above}
-use Rattle.type_contexts.proofs.Scalings.{scaling_back, entries_small}
+use Rattle.type_contexts.proofs.Groups.{stands_before, not_yet, one_more_name, place_whole}
+use Rattle.type_contexts.proofs.SameNumbers.{same_trans}
+use Rattle.type_contexts.proofs.Scalings.{scaling_back}
 use Rattle.types_of_files.proofs.FileRead.{the_document}
 use Rattle.types_of_files.proofs.ItemsRead.{noise_entry, unknown_entry}
 use Rattle.types_of_files.proofs.WrittenBack.{IsBack, read_of, unit_same}
@@ -134,11 +127,11 @@ types_back ty t z types n k fits =
       scaling = sym (scaling_back ty.dims ty.scaling types.scaling);
       list =
           subst (λ es. AllZip (IsSameEntry den l) es (map (noise_type l (groups_of doc.noises)) doc.noises ++ map (kernel_type l) doc.unknowns)) (take-append-drop (noise_count ty) ty.list)
-              (zip_joined (IsSameEntry den l) (noises ty) (kernels ty) (map (noise_type l (groups_of doc.noises)) doc.noises) (map (kernel_type l) doc.unknowns)
-              (noises_back den l t ty.groups (groups_of doc.noises) (noises ty) (units_above doc) groups types.groups.different
-              (both _ (λ e. AreCleared l (read_of (t e))) (IsNoiseBack den l t (length ty.groups)) (noises ty) (λ e p c. record { kind = p.0; group = p.1; back = p.2; clears = c }) n (unmapped (λ m. AreCleared l m.degree) (noise_entry (by_text t) ty.groups) (noises ty) cleared.0)))
-              (kernels_back den l t z (kernels ty) (units_above doc)
-              (both _ (λ e. AreCleared l (read_of (t e))) (IsKernelBack den l t) (kernels ty) (λ e p c. record { kind = p.0; group = p.1; back = p.2; clears = c }) k
-              (all_weaker _ (λ e. AreCleared l (read_of (t e))) (kernels ty) (λ e c. c.0) (unmapped (λ u. AreCleared l u.degree × AreCleared l u.regularity) (unknown_entry (by_text t) z) (kernels ty) cleared.1)))));
+          (zip_joined (IsSameEntry den l) (noises ty) (kernels ty) (map (noise_type l (groups_of doc.noises)) doc.noises) (map (kernel_type l) doc.unknowns)
+          (noises_back den l t ty.groups (groups_of doc.noises) (noises ty) (units_above doc) groups types.groups.different
+          (both _ (λ e. AreCleared l (read_of (t e))) (IsNoiseBack den l t (length ty.groups)) (noises ty) (λ e p c. record { kind = p.0; group = p.1; back = p.2; clears = c }) n (unmapped (λ m. AreCleared l m.degree) (noise_entry (by_text t) ty.groups) (noises ty) cleared.0)))
+          (kernels_back den l t z (kernels ty) (units_above doc)
+          (both _ (λ e. AreCleared l (read_of (t e))) (IsKernelBack den l t) (kernels ty) (λ e p c. record { kind = p.0; group = p.1; back = p.2; clears = c }) k
+          (all_weaker _ (λ e. AreCleared l (read_of (t e))) (kernels ty) (λ e c. c.0) (unmapped (λ u. AreCleared l u.degree × AreCleared l u.regularity) (unknown_entry (by_text t) z) (kernels ty) cleared.1)))));
       groups = sym groups;
     }

@@ -22,12 +22,12 @@ use Rattle.type_contexts.specs.Same.{AreSameTypes}
 use Rattle.type_contexts.proofs.Groups.{named_at}
 use Rattle.type_contexts.proofs.SameNumbers.{size_above}
 use Rattle.type_contexts.proofs.Scalings.{entries_small}
-use Rattle.types_of_files.specs.Written.{file_of}
+use Rattle.types_of_files.proofs.WrittenFile.{file_of}
 use Rattle.types_of_files.proofs.FileRead.{the_document, file_accepted}
 use Rattle.types_of_files.proofs.ItemsRead.{IsWrittenAs}
 use Rattle.types_of_files.proofs.LimitsKept.{IsSmallWritten, units_most, limits_kept}
 use Rattle.types_of_files.proofs.TypesBack.{by_text, order_most, both, unmapped, types_back}
-use Rattle.types_of_files.proofs.WrittenBack.{IsBack, IsWritableDegree, degree_has_text, read_of, written_back, standard, positive}
+use Rattle.types_of_files.proofs.WrittenBack.{IsBack, degree_has_text, read_of, written_back, standard, positive}
 
 all_front : {A : Type 0} (P : A → Type 0) (n : ℕ) (xs : List A) → AllByRecursion P xs → AllByRecursion P (take n xs)
 all_front P zero xs h = tt

@@ -1,17 +1,14 @@
 -- What is written of a degree, and the types of the document.
-use Rattle.std.proofs.Common.{◌≡◌, ℕ, zero, suc, negsuc, ◌+◌, ◌*◌, ◌/◌, ◌<◌, ◌≤◌, Bool, true, false, not, ℤ, pos, ◌<ℤ◌, unsigned_abs, List, [], ◌∷◌, ◌++◌, length, map, take, drop, fold, Some, None, Option, arith, refl, ap, sym, subst, ◌∙◌}
-use Rattle.std.proofs.Math.Logic.{inl, inr}
+use Rattle.std.proofs.Common.{◌≡◌, ℕ, zero, suc, negsuc, ◌*◌, ◌/◌, ◌<◌, ◌≤◌, Bool, true, false, ℤ, pos, ◌<ℤ◌, unsigned_abs, List, Some, None, arith, refl, ap, sym, subst, ◌∙◌}
 use Rattle.std.proofs.Math.Nat.{div-mul_cancel}
-use Rattle.std.proofs.Math.Seq.{take-length}
-use Rattle.std.specs.Prelude.{◌==◌, ◌&&◌, unwrap_or, if◌then◌else◌}
+use Rattle.std.specs.Prelude.{◌==◌, unwrap_or}
 use Rattle.std.specs.Int.{◌∣◌, is_negative}
-use Rattle.std.specs.List.{AllByRecursion, AllZip}
 use Rattle.std.proofs.lemmas.Bool.{false≢true}
 use Rattle.std.proofs.lemmas.Bool.Decides.{nat_tests}
 use Rattle.std.proofs.lemmas.Int.{ints}
 use Rattle.degree_numbers.specs.declared.degree.Degree.{Degree}
 use Rattle.degree_numbers.specs.DegreeText.{Written, written_of}
-use Rattle.degree_numbers.specs.Fraction.{Fraction, Clears, IsFractionInRange, under_sign}
+use Rattle.degree_numbers.specs.Fraction.{Fraction, Clears, under_sign}
 use Rattle.degree_numbers.specs.Printing.{IsLowestOf, IsDegreeText, degree_text}
 use Rattle.degree_numbers.specs.Types.{IsWritable}
 use Rattle.degree_numbers.specs.Written.{in_units_of}
@@ -21,7 +18,7 @@ use Rattle.equation_document.specs.DegreeEntry.{is_positive, is_standard}
 use Rattle.type_contexts.specs.Same.{IsSameFraction}
 use Rattle.type_contexts.proofs.DegreesRead.{IsSameWritten, written_same}
 use Rattle.type_contexts.proofs.Denominators.{written_above}
-use Rattle.type_contexts.proofs.SameNumbers.{same_trans, signed_same, writable_same, whole_same, size_above, some_too, not_negative}
+use Rattle.type_contexts.proofs.SameNumbers.{signed_same, writable_same, whole_same, size_above, some_too, not_negative}
 use Rattle.types_of_files.proofs.LimitsKept.{IsSmallWritten}
 
 lowest_of : (z : ℤ) (den : ℕ) → 0 < den → (f : Fraction) × IsLowestOf z den f

@@ -11,8 +11,9 @@ ghost use Rattle.equation_document.specs.Limits.{units_of};
 ghost use Rattle.equation_file.specs.Meaning.{types_of};
 ghost use Rattle.type_contexts.specs.Same.{AreSameTypes};
 
-/// For each types of a file, in any common denominator, there is the table of a file that is accepted with all limits and has the same types. So the definition
-/// leaves out no condition that a file must keep. (That the types of each accepted file are such types is part of what reading an equation gives.)
+/// The types of the table of each accepted file are types as the definition asks for; and for all types that it allows, in any common denominator, there is the table
+/// of an accepted file that has the same types. So the definition asks for neither less nor more than a file gives.
 pub fn types_are_those_of_files()
-    ensures { (ty : Types) → AreTypes ty → (ms : Members) × (doc : Document) × (accepted ms ≡ Ok doc) × AreSameTypes ty (types_of (units_of doc) doc) }
+    ensures types { (ms : Members) (doc : Document) → accepted ms ≡ Ok doc → AreTypes (types_of (units_of doc) doc) }
+    ensures file { (ty : Types) → AreTypes ty → (ms : Members) × (doc : Document) × (accepted ms ≡ Ok doc) × AreSameTypes ty (types_of (units_of doc) doc) }
 {}

@@ -22,5 +22,5 @@ items_by f (x ∷ xs) = item (f x) (items_by f xs)
 abbrev pub file_of : (TypeEntry → List ℕ) → List ℕ → Types → Members
 file_of t regularity ty =
     member (codes "noise") (array (items_by (noise_data t ty.groups) (noises ty)))
-        (member (codes "scaling") (array (items_by (λ n. integer (pos n)) (take ty.dims ty.scaling)))
-        (member (codes "unknown") (array (items_by (unknown_data t regularity) (kernels ty))) (member (codes "version") (integer (pos 1)) no_members)))
+    (member (codes "scaling") (array (items_by (λ n. integer (pos n)) (take ty.dims ty.scaling)))
+    (member (codes "unknown") (array (items_by (unknown_data t regularity) (kernels ty))) (member (codes "version") (integer (pos 1)) no_members)))
