@@ -15,7 +15,7 @@ bump-plus-left zero (x ∷ xs) (y ∷ ys) h = let first : suc (x + y) ≡ suc x 
 bump-plus-left (suc d) (x ∷ xs) (y ∷ ys) h = ap (λ (l : List ℕ). (x + y) ∷ l) (bump-plus-left d xs ys (omega (arith, h)))
 
 -- one unit, and nothing else
-abbrev unit_at : ℕ → List ℕ
+abbrev pub unit_at : ℕ → List ℕ
 unit_at zero = 1 ∷ []
 unit_at (suc d) = 0 ∷ unit_at d
 
@@ -92,11 +92,11 @@ one_more d n (m ∷ ms) (q ∷ qs) (r ∷ rs) wide h b =
           (h.0, plus_of (unit_at d) h.1, parted, ap (λ (e : EdgeLabel). e.0) later.0 ∙ h.3, ap (λ (e : EdgeLabel). e.1) later.0 ∙ h.4, one_more d h.1 ms qs rs wide.1 h.5 later.1)
     ]
 
-pub MoreFrom : ℕ → List ℕ → List EdgeLabel → List EdgeLabel → Type 0
+abbrev pub MoreFrom : ℕ → List ℕ → List EdgeLabel → List EdgeLabel → Type 0
 MoreFrom d n ms rs = IsRaised n ms rs ⊎ ((qs : List EdgeLabel) × IsRaised n ms qs × IsBumped d qs rs)
 
 pub one_less : (d : ℕ) (n : List ℕ) (ms rs : List EdgeLabel) → d < length n → AllByRecursion (HasDirection d) ms → IsRaised (plus_of (unit_at d) n) ms rs → MoreFrom d n ms rs
-unfolding MoreFrom OfFirst OfSecond
+unfolding OfFirst OfSecond
 one_less d n [] [] long wide h = inl tt
 one_less d n [] (r ∷ rs) long wide h = absurd h
 one_less d n (m ∷ ms) [] long wide h = absurd h

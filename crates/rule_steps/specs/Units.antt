@@ -2,8 +2,10 @@
 --   bump d m == the multiindex m with one more in direction d
 --   bump_label d e == the edge type e with one more derivative in direction d
 --   IsBumped d qs rs == rs are qs with one of them raised so
-use Rattle.std.specs.Prelude.{◌≡◌, ℕ, zero, suc, List, [], ◌∷◌, ◌⊎◌}
+use Rattle.std.specs.Prelude.{◌≡◌, ℕ, zero, suc, List, [], ◌∷◌, ◌⊎◌, map, length}
+use Rattle.std.specs.List.{range_with_len}
 use Rattle.conforming_trees.specs.Conforming.{EdgeLabel}
+use Rattle.rule_stages.specs.Stages.{join}
 
 abbrev pub bump : ℕ → List ℕ → List ℕ
 bump d [] = []
@@ -17,3 +19,16 @@ abbrev pub IsBumped : ℕ → List EdgeLabel → List EdgeLabel → Type 0
 IsBumped d [] rs = ⊥
 IsBumped d (q ∷ qs) [] = ⊥
 IsBumped d (q ∷ qs) (r ∷ rs) = ((r ≡ bump_label d q) × (rs ≡ qs)) ⊎ ((r ≡ q) × IsBumped d qs rs)
+
+-- the list in which the one at place i is raised
+abbrev pub bumped_at : ℕ → ℕ → List EdgeLabel → List EdgeLabel
+bumped_at d i [] = []
+bumped_at d zero (q ∷ qs) = bump_label d q ∷ qs
+bumped_at d (suc i) (q ∷ qs) = q ∷ bumped_at d i qs
+
+-- the lists in which one of the first n is raised, in order
+abbrev pub first_bumped : ℕ → ℕ → List EdgeLabel → List (List EdgeLabel)
+first_bumped d n es = map (λ i. join (bumped_at d i es) []) (range_with_len 0 n)
+
+abbrev pub all_bumped : ℕ → List EdgeLabel → List (List EdgeLabel)
+all_bumped d es = first_bumped d (length es) es
