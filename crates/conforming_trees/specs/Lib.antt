@@ -1,3 +1,4 @@
 pub mod Budgets
 pub mod Conforming
+pub mod Entries
 pub mod Listed

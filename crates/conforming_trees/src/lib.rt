@@ -2,5 +2,7 @@
 #![tactic(auto)]
 
 mod laws;
+mod normal;
 
 pub use laws::listing_order_laws;
+pub use normal::normal_rule_is_rule;

@@ -8,6 +8,7 @@ use Rattle.std.specs.declared.option.Option.{Option}
 use Rattle.std.proofs.lemmas.Bool.Decides.{nat_tests}
 use Rattle.std.proofs.lemmas.Int.{ints}
 use Rattle.std.proofs.lemmas.List.{get_or-set_same, get_or-set_other}
+use Rattle.conforming_trees.proofs.Passed.{same_place}
 use Rattle.large_trees.specs.declared.excess.Excess.{Excess}
 use Rattle.large_trees.specs.Lines.{Line, HasCell, IsAtMost, IsLesser, IsNone, Joins, IsLeast, most_excess, small, excess_plus}
 use Rattle.large_trees.specs.Sums.{IsShifted, IsSum}
@@ -66,9 +67,6 @@ lesser_old (Some x) u v w h e = subst (IsAtMost w) (some_is x u e) h.1
 lesser_new : (cell : Option Excess) (v w : Excess) → IsLesser cell v w → IsAtMost w v
 lesser_new None v w h = subst (IsAtMost w) h (at_most_self w)
 lesser_new (Some x) v w h = h.2
-
-pub same_place : (m c : ℕ) → (m ≡ c) ⊎ (m ≢ c)
-same_place m c = elim (m == c) as (λ (b : Bool). (m == c) ≡ b → (m ≡ c) ⊎ (m ≢ c)) [ true ↦ λ e. inl (grind (arith, nat_tests)) | false ↦ λ e. inr (grind (arith, nat_tests)) ] refl
 
 put_value : (old : Line) (c : ℕ) (w v : Excess) → c < length old → HasCell (slice_set old c (Some w)) c v → w ≡ v
 put_value old c w v lt h = some_is w v (sym (get_or-set_same old c (Some w) None lt) ∙ h)

@@ -9,6 +9,7 @@ use Rattle.equation_file.specs.declared.equation.Equation.{Equation}
 use Rattle.normal_rule.specs.declared.rule.NodeType.{NodeType}
 use Rattle.normal_rule.specs.declared.rule.Rule.{Rule}
 use Rattle.conforming_trees.specs.Conforming.{labels}
+use Rattle.conforming_trees.proofs.Passed.{IsAt, at_one, in_at, same_place}
 use Rattle.large_trees.specs.declared.count.Count.{Count}
 use Rattle.large_trees.specs.declared.excess.Excess.{Excess}
 use Rattle.large_trees.specs.declared.line.Line.{Line as Cells}
@@ -17,22 +18,8 @@ use Rattle.large_trees.specs.Lines.{Line, IsNone, IsAtMost, Joins, IsLeast, most
 use Rattle.large_trees.specs.Cells.{line_at}
 use Rattle.large_trees.specs.Limits.{AreLimited}
 use Rattle.large_trees.specs.Sums.{IsShifted, IsPartial, gap_of, HasNode, HasRow, HasNoise, HasExcess}
-use Rattle.large_trees.proofs.LineLaws.{at_most_self, at_most_plus, at_most_trans, joins_same, joins_nothing, joins_more, joins_none_least, same_place}
+use Rattle.large_trees.proofs.LineLaws.{at_most_self, at_most_plus, at_most_trans, joins_same, joins_nothing, joins_more, joins_none_least}
 use Rattle.large_trees.proofs.Sizes.{partial_limited, partial_class}
-
--- x stands at place i
-abbrev pub IsAt : {X : Type 0} → List X → ℕ → X → Type 0
-IsAt xs i x = (i < length xs) × (x ≡ get_or xs i x)
-
-pub at_one : {X : Type 0} (xs : List X) (i : ℕ) (x y : X) → IsAt xs i x → IsAt xs i y → x ≡ y
-at_one [] i x y h k = absurd (let lt = h.0 in omega arith)
-at_one (z ∷ zs) zero x y h k = h.1 ∙ sym k.1
-at_one (z ∷ zs) (suc i) x y h k = at_one zs i x y (let lt = h.0 in omega arith, h.1) (let lt = k.0 in omega arith, k.1)
-
-pub in_at : {X : Type 0} (xs : List X) (x : X) → IsIn x xs → (i : ℕ) × IsAt xs i x
-in_at [] x h = absurd h
-in_at (y ∷ ys) x (inl e) = (0, (omega arith, sym e))
-in_at (y ∷ ys) x (inr h) = let later = in_at ys x h in (suc later.0, (let lt = later.1.0 in omega arith, later.1.1))
 
 -- families of members
 module _ {X : Type 0} (G : X → ℕ → Excess → Type 0) (xs : List X) (old : Line) where
@@ -101,17 +88,6 @@ line_least eq rule q cells k i noise new all l h =
         | inr r ↦ j.least m v r few
       ];
     }
-
--- what holds of the members that were passed
-pub passed_more : {X : Type 0} (P : X → Type 0) (xs : List X) (i : ℕ) (x : X) → i < length xs → x ≡ get_or xs i x → P x → ((j : ℕ) (y : X) → j < i → IsAt xs j y → P y) → (j : ℕ) (y : X) → j < i + 1 → IsAt xs j y → P y
-passed_more P xs i x lt is p h j y before at =
-    elim (same_place j i) [
-      | inl e ↦ let place = subst (λ (k : ℕ). IsAt xs k y) e at in subst P (at_one xs i x y (lt, is) place) p
-      | inr n ↦ h j y (omega arith) at
-    ]
-
-pub passed_all : {X : Type 0} (P : X → Type 0) (xs : List X) (i : ℕ) → length xs ≤ i → ((j : ℕ) (y : X) → j < i → IsAt xs j y → P y) → (x : X) → IsIn x xs → P x
-passed_all P xs i all h x m = let at = in_at xs x m in let lt = at.1.0 in h at.0 x (omega arith) at.1
 
 -- one line more
 line_last : (lines : List Cells) (line : Cells) → line_at (lines ++ line ∷ []) (length lines) ≡ line.cells

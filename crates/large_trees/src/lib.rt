@@ -11,6 +11,8 @@ mod line;
 mod nodes;
 mod roots;
 mod rounds;
+#[cfg(test)]
+mod tests;
 mod unit;
 
 pub use large::has_too_large_tree;
