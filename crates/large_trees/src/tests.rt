@@ -53,13 +53,22 @@ fn answer(alloc: Global, file: &str) -> Option<bool> {
 }
 
 // A file with one noise and one unknown.
-fn file(alloc: Global, scaling: &str, noise: &str, kernel: &str, regularity: &str, right: &str) -> Option<String> {
+fn file(
+    alloc: Global,
+    scaling: &str,
+    noise: &str,
+    kernel: &str,
+    regularity: &str,
+    right: &str,
+) -> Option<String> {
     let mut text = String::new(alloc);
     text.push_str("version = 1\nscaling = ").ok()?;
     text.push_str(scaling).ok()?;
-    text.push_str("\n[[noise]]\nname = \"x\"\ndegree = \"").ok()?;
+    text.push_str("\n[[noise]]\nname = \"x\"\ndegree = \"")
+        .ok()?;
     text.push_str(noise).ok()?;
-    text.push_str("\"\n[[unknown]]\nname = \"u\"\ndegree = \"").ok()?;
+    text.push_str("\"\n[[unknown]]\nname = \"u\"\ndegree = \"")
+        .ok()?;
     text.push_str(kernel).ok()?;
     text.push_str("\"\nregularity = \"").ok()?;
     text.push_str(regularity).ok()?;
@@ -69,7 +78,14 @@ fn file(alloc: Global, scaling: &str, noise: &str, kernel: &str, regularity: &st
     Some(text)
 }
 
-fn answer_for(alloc: Global, scaling: &str, noise: &str, kernel: &str, regularity: &str, right: &str) -> Option<bool> {
+fn answer_for(
+    alloc: Global,
+    scaling: &str,
+    noise: &str,
+    kernel: &str,
+    regularity: &str,
+    right: &str,
+) -> Option<bool> {
     let text = file(alloc, scaling, noise, kernel, regularity, right)?;
     answer(alloc, text.as_str())
 }
