@@ -4,9 +4,7 @@ pub mod Kernels
 pub mod Labels
 pub mod Lows
 pub mod NodeTypes
-pub mod NormalRules
 pub mod Orders
-pub mod Passed
 pub mod Roots
 pub mod Stems
 pub mod Wholes

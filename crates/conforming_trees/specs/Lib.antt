@@ -1,4 +1,3 @@
 pub mod Budgets
 pub mod Conforming
-pub mod Entries
 pub mod Listed

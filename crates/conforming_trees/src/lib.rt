@@ -2,7 +2,5 @@
 #![tactic(auto)]
 
 mod laws;
-mod normal;
 
 pub use laws::listing_order_laws;
-pub use normal::normal_rule_is_rule;

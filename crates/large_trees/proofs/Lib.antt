@@ -6,6 +6,7 @@ pub mod Families
 pub mod Heights
 pub mod LargeTrees
 pub mod LineLaws
+pub mod Passed
 pub mod RoundLines
 pub mod Sizes
 pub mod Trees

@@ -7,7 +7,7 @@ use Rattle.std.proofs.Math.ListN.{replicate}
 use Rattle.std.specs.declared.option.Option.{Option}
 use Rattle.std.proofs.lemmas.Int.{ints}
 use Rattle.std.proofs.lemmas.List.{get_or-set_same, get_or-set_other}
-use Rattle.conforming_trees.proofs.Passed.{same_place}
+use Rattle.large_trees.proofs.Passed.{same_place}
 use Rattle.large_trees.specs.declared.excess.Excess.{Excess}
 use Rattle.large_trees.specs.Lines.{Line, HasCell, IsAtMost, IsLesser, IsNone, Joins, IsLeast, most_excess, small, excess_plus}
 use Rattle.large_trees.specs.Sums.{IsShifted, IsSum}

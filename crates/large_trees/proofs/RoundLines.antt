@@ -9,7 +9,7 @@ use Rattle.equation_file.specs.declared.equation.Equation.{Equation}
 use Rattle.normal_rule.specs.declared.rule.NodeType.{NodeType}
 use Rattle.normal_rule.specs.declared.rule.Rule.{Rule}
 use Rattle.conforming_trees.specs.Conforming.{labels}
-use Rattle.conforming_trees.proofs.Passed.{IsAt, at_one, in_at, same_place}
+use Rattle.large_trees.proofs.Passed.{IsAt, at_one, in_at, same_place}
 use Rattle.large_trees.specs.declared.count.Count.{Count}
 use Rattle.large_trees.specs.declared.excess.Excess.{Excess}
 use Rattle.large_trees.specs.declared.line.Line.{Line as Cells}

@@ -1,7 +1,7 @@
 -- The least entry of the scaling.
 use Rattle.std.proofs.Common.{◌≡◌, ℕ, ◌+◌, ◌≤◌, min, List, slice_index, sym, ◌∙◌, subst, inl, inr, arith}
 use Rattle.large_trees.specs.Large.{IsLeastEntry}
-use Rattle.conforming_trees.proofs.Passed.{same_place}
+use Rattle.large_trees.proofs.Passed.{same_place}
 
 pub entry_more : (ss : List ℕ) (i s x r : ℕ) → IsLeastEntry ss i s → x ≡ slice_index ss i → r ≡ min s x → IsLeastEntry ss (i + 1) r
 entry_more ss i s x r h is least =

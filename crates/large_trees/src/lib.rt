@@ -11,8 +11,6 @@ mod line;
 mod nodes;
 mod roots;
 mod rounds;
-#[cfg(test)]
-mod tests;
 mod unit;
 
 pub use large::has_too_large_tree;

@@ -3,7 +3,7 @@ use Rattle.ordered_lists.specs.Members.{IsIn}
 use Rattle.ordered_lists.proofs.Members.{member_at}
 use Rattle.normal_rule.specs.declared.rule.NodeType.{NodeType}
 use Rattle.large_trees.specs.Large.{HasLargeNode}
-use Rattle.conforming_trees.proofs.Passed.{passed_all}
+use Rattle.large_trees.proofs.Passed.{passed_all}
 use Rattle.large_trees.proofs.large.is_large_row.Goals as goal
 
 pub is_large_node-requires-clause-low : goal.is_large_node-requires-clause-low

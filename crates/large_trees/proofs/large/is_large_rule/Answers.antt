@@ -4,7 +4,7 @@ use Rattle.ordered_lists.proofs.Members.{member_at}
 use Rattle.normal_rule.specs.declared.rule.RuleRow.{RuleRow}
 use Rattle.large_trees.specs.Large.{HasLargeRow}
 use Rattle.large_trees.proofs.LargeTrees.{regularity_low}
-use Rattle.conforming_trees.proofs.Passed.{passed_all}
+use Rattle.large_trees.proofs.Passed.{passed_all}
 use Rattle.large_trees.proofs.large.is_large_rule.Goals as goal
 
 pub is_large_row-requires-clause-low : goal.is_large_row-requires-clause-low

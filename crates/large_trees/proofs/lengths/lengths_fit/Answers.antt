@@ -2,7 +2,7 @@ use Rattle.std.proofs.Common.{◌≡◌, ◌<◌, ◌≤◌, length, get_or}
 use Rattle.ordered_lists.specs.Members.{IsIn}
 use Rattle.normal_rule.specs.declared.rule.NodeType.{NodeType}
 use Rattle.normal_rule.specs.declared.rule.RuleRow.{RuleRow}
-use Rattle.conforming_trees.proofs.Passed.{passed_more, passed_all}
+use Rattle.large_trees.proofs.Passed.{passed_more, passed_all}
 use Rattle.large_trees.proofs.lengths.lengths_fit.Goals as goal
 
 abbrev Fits : RuleRow → Type 0

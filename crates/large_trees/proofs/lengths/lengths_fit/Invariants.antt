@@ -2,7 +2,7 @@ use Rattle.std.proofs.Common.{ℕ, ◌<◌, length}
 use Rattle.ordered_lists.specs.Members.{IsIn}
 use Rattle.normal_rule.specs.declared.rule.NodeType.{NodeType}
 use Rattle.normal_rule.specs.declared.rule.RuleRow.{RuleRow}
-use Rattle.conforming_trees.proofs.Passed.{IsAt}
+use Rattle.large_trees.proofs.Passed.{IsAt}
 use Rattle.large_trees.proofs.lengths.lengths_fit.Given as goal
 
 abbrev pub invariant-loop-row : goal.invariant-loop-row

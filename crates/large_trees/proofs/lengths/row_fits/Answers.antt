@@ -1,6 +1,6 @@
 use Rattle.std.proofs.Common.{◌≡◌, ◌<◌, ◌≤◌, length, get_or}
 use Rattle.normal_rule.specs.declared.rule.NodeType.{NodeType}
-use Rattle.conforming_trees.proofs.Passed.{passed_more, passed_all}
+use Rattle.large_trees.proofs.Passed.{passed_more, passed_all}
 use Rattle.large_trees.proofs.lengths.row_fits.Goals as goal
 
 abbrev Fits : NodeType → Type 0

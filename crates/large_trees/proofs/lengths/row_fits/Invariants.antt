@@ -1,6 +1,6 @@
 use Rattle.std.proofs.Common.{ℕ, ◌<◌, length}
 use Rattle.normal_rule.specs.declared.rule.NodeType.{NodeType}
-use Rattle.conforming_trees.proofs.Passed.{IsAt}
+use Rattle.large_trees.proofs.Passed.{IsAt}
 use Rattle.large_trees.proofs.lengths.row_fits.Given as goal
 
 abbrev pub invariant-loop-node : goal.invariant-loop-node

@@ -1,7 +1,6 @@
 -- Places in a list, and what holds of the members that a loop has passed.
 use Rattle.std.proofs.Common.{◌≡◌, ◌≢◌, ℕ, zero, suc, ◌+◌, ◌<◌, ◌≤◌, ◌==◌, Bool, true, false, List, [], ◌∷◌, length, get_or, refl, sym, ◌∙◌, subst, inl, inr, arith}
 use Rattle.std.specs.Prelude.{◌⊎◌}
-use Rattle.std.specs.List.{All}
 use Rattle.std.proofs.lemmas.Bool.Decides.{nat_tests}
 use Rattle.ordered_lists.specs.Members.{IsIn}
 
@@ -31,24 +30,5 @@ passed_more P xs i x lt is p h j y before at =
       | inr n ↦ h j y (omega arith) at
     ]
 
-get_or_own : {X : Type 0} (xs : List X) (i : ℕ) (d : X) → i < length xs → get_or xs i d ≡ get_or xs i (get_or xs i d)
-get_or_own [] i d lt = absurd (omega arith)
-get_or_own (x ∷ xs) zero d lt = refl
-get_or_own (x ∷ xs) (suc i) d lt = get_or_own xs i d (omega arith)
-
-pub passed_next : {X : Type 0} (P : X → Type 0) (xs es : List X) (i : ℕ) (d : X) → es ≡ xs → i < length es → P (get_or es i d) → ((j : ℕ) (y : X) → j < i → IsAt xs j y → P y) → (j : ℕ) (y : X) → j < i + 1 → IsAt xs j y → P y
-passed_next {X} P xs es i d same lt p h =
-    let inside : i < length xs = subst (λ (ys : List X). i < length ys) same lt in
-    let here : P (get_or xs i d) = subst (λ (ys : List X). P (get_or ys i d)) same p in
-    passed_more P xs i (get_or xs i d) inside (get_or_own xs i d inside) here h
-
 pub passed_all : {X : Type 0} (P : X → Type 0) (xs : List X) (i : ℕ) → length xs ≤ i → ((j : ℕ) (y : X) → j < i → IsAt xs j y → P y) → (x : X) → IsIn x xs → P x
 passed_all P xs i all h x m = let at = in_at xs x m in let lt = at.1.0 in h at.0 x (omega arith) at.1
-
-in_get : {X : Type 0} (xs : List X) (k : ℕ) (d : X) → k < length xs → IsIn (get_or xs k d) xs
-in_get [] k d lt = absurd (omega arith)
-in_get (x ∷ xs) zero d lt = inl refl
-in_get (x ∷ xs) (suc k) d lt = inr (in_get xs k d (omega arith))
-
-pub all_from_members : {X : Type 0} (P : X → Type 0) (xs : List X) → ((x : X) → IsIn x xs → P x) → All P xs
-all_from_members P xs h = λ k d lt. h (get_or xs k d) (in_get xs k d lt)
