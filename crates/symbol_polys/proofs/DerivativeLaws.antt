@@ -21,7 +21,7 @@ use Rattle.symbol_polys.specs.declared.poly.Term.{Term}
 use Rattle.symbol_polys.proofs.PolyLaws.{above_zero}
 use Rattle.symbol_polys.proofs.SymbolLaws.{symbol_order_total, symbol_order_exact, symbol_order_self}
 
-abbrev is_equal : PlainSymbol → PlainSymbol → Bool
+abbrev pub is_equal : PlainSymbol → PlainSymbol → Bool
 is_equal s t = is_eq (symbol_order s t)
 
 -- a monomial with one symbol less
@@ -39,7 +39,7 @@ sorted-without s (t ∷ m) h =
           (all-without (λ u. is_lt (symbol_order u t) ≡ false) s m (first_is_least symbol_order symbol_order_total t m h))
     ]
 
-is_monomial-without : (s : PlainSymbol) (m : List PlainSymbol) → IsMonomial m → IsMonomial (without s m)
+pub is_monomial-without : (s : PlainSymbol) (m : List PlainSymbol) → IsMonomial m → IsMonomial (without s m)
 is_monomial-without s m h = record { ascending = sorted-without s m h.ascending; trees = all-without HasBoundedTree s m h.trees }
 
 length-without : (s : PlainSymbol) (m : List PlainSymbol) → 0 < power_of s m → length (without s m) + 1 ≡ length m
@@ -56,7 +56,7 @@ is_eq_equal Less h = absurd cc
 is_eq_equal Equal h = refl
 is_eq_equal Greater h = absurd cc
 
-same : (s t : PlainSymbol) → is_equal s t ≡ true → s ≡ t
+pub same : (s t : PlainSymbol) → is_equal s t ≡ true → s ≡ t
 same s t h = symbol_order_exact s t (is_eq_equal (symbol_order s t) h)
 
 then_less : (a b : Ordering) → ordering_then a b ≡ Less → (a ≡ Less) ⊎ ((a ≡ Equal) × (b ≡ Less))
@@ -103,7 +103,7 @@ power_within : (s : PlainSymbol) (m : List PlainSymbol) → power_of s m ≤ len
 power_within s [] = omega arith
 power_within s (t ∷ m) = elim (is_equal s t) as (λ b. cond b 1 0 + power_of s m ≤ length (t ∷ m)) [ true ↦ omega (arith, power_within s m) | false ↦ omega (arith, power_within s m) ]
 
-later : (b : Bool) (n : ℕ) → b ≡ false → 0 < cond b 1 0 + n → 0 < n
+pub later : (b : Bool) (n : ℕ) → b ≡ false → 0 < cond b 1 0 + n → 0 < n
 later true n e h = absurd cc
 later false n e h = omega (arith, h)
 

@@ -1,8 +1,9 @@
 pub mod AddLaws
-pub mod CongruenceLaws
 pub mod Ascending
+pub mod CongruenceLaws
 pub mod Cuts
 pub mod DerivativeLaws
+pub mod DerivativeRules
 pub mod Entries
 pub mod FactorPasses
 pub mod Following
@@ -21,8 +22,8 @@ pub mod Powers
 pub mod ProductLaws
 pub mod ProductRules
 pub mod Putting
-pub mod SignedLaws
 pub mod ReadPolys
+pub mod SignedLaws
 pub mod SignedTexts
 pub mod SymbolLaws
 pub mod SymbolNames

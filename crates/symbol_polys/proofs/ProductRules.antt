@@ -28,7 +28,7 @@ pub count-product : (z : PlainSymbol) (m n : List PlainSymbol) → count_of symb
 count-product z [] n = omega arith
 count-product z (s ∷ m) n = omega (arith, count-with_symbol z s (monomial_product m n), count-product z m n)
 
-same_monomial : (m n : List PlainSymbol) → IsMonomial m → IsMonomial n → ((z : PlainSymbol) → count_of symbol_order z m ≡ count_of symbol_order z n) → m ≡ n
+pub same_monomial : (m n : List PlainSymbol) → IsMonomial m → IsMonomial n → ((z : PlainSymbol) → count_of symbol_order z m ≡ count_of symbol_order z n) → m ≡ n
 same_monomial m n h k e = by_counts symbol_order symbol_order_total symbol_order_exact m n h.ascending k.ascending e
 
 pub monomial_product-commutative : (m n : List PlainSymbol) → IsMonomial m → IsMonomial n → monomial_product m n ≡ monomial_product n m

@@ -23,7 +23,7 @@ mod written;
 
 pub use derivatives::derive;
 pub use error::PolyError;
-pub use laws::{coefficients_determine, product_laws};
+pub use laws::{coefficients_determine, derivative_laws, product_laws};
 pub use poly::{Poly, Term, one, scale, symbol, zero};
 pub use products::mul;
 pub use reading::read_poly;

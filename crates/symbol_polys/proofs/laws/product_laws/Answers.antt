@@ -1,4 +1,5 @@
-use Rattle.symbol_polys.proofs.ProductRules.{products-commutative, products-associative, products-append, products-one}
+use Rattle.symbol_polys.proofs.MonomialLaws.{is_monomial-product}
+use Rattle.symbol_polys.proofs.ProductRules.{count-product, products-commutative, products-associative, products-append, products-one}
 use Rattle.symbol_polys.proofs.laws.product_laws.Goals as goal
 
 pub returns-clause-commutative : goal.returns-clause-commutative
@@ -12,3 +13,9 @@ returns-clause-distributive c = products-append
 
 pub returns-clause-one : goal.returns-clause-one
 returns-clause-one c = products-one
+
+pub returns-clause-monomial : goal.returns-clause-monomial
+returns-clause-monomial c = is_monomial-product
+
+pub returns-clause-powers : goal.returns-clause-powers
+returns-clause-powers c = count-product
