@@ -30,4 +30,5 @@ pub mod SymbolNames
 pub mod SymbolTexts
 pub mod TermReadings
 pub mod TermTexts
+pub mod TextUnique
 pub mod WrittenTerms

@@ -26,7 +26,7 @@ pub use error::PolyError;
 pub use laws::{coefficients_determine, derivative_laws, product_laws};
 pub use poly::{Poly, Term, one, scale, symbol, zero};
 pub use products::mul;
-pub use reading::read_poly;
+pub use reading::{poly_text_laws, read_poly};
 pub use sums::add;
 pub use symbols::{
     Symbol, copy_symbol, copy_symbols, monomial_order, symbol_order, symbol_order_laws,

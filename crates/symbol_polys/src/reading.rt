@@ -1,10 +1,11 @@
 // Polynomials are read from their texts.
-ghost use Rattle.std.specs.Prelude.{◌≡◌, ◌≤◌, ◌<◌, ◌↔◌, ◌⊎◌, List, IsTrue, true, pos, map, IfOk, IfErr, IsOkUnless, MatchOption};
+ghost use Rattle.std.specs.Prelude.{◌≡◌, ◌≤◌, ◌<◌, ◌↔◌, ◌⊎◌, ℕ, ℤ, List, IsTrue, true, pos, map, IfOk, IfErr, IsOkUnless, MatchOption};
 ghost use Rattle.std.specs.List.{AllByRecursion};
 ghost use Rattle.exact_sums.specs.Saturating.{overflow};
+ghost use Rattle.degree_numbers.specs.declared.types.Types.{Types};
 ghost use Rattle.degree_numbers.specs.Types.{AreTypes};
-ghost use Rattle.symbol_polys.specs.Polynomials.{PlainTerm, size_of, IsRefused};
-ghost use Rattle.symbol_polys.specs.Reading.{IsTextOf, IsTextRefused, IsReadAs};
+ghost use Rattle.symbol_polys.specs.Polynomials.{PlainTerm, size_of, IsPolynomial, IsRefused};
+ghost use Rattle.symbol_polys.specs.Reading.{IsSymbolOf, IsTextOf, IsTextRefused, IsReadAs};
 ghost use Rattle.symbol_polys.specs.TermReading.{is_numeral, written_of, IsWritten};
 ghost use Rattle.symbol_polys.specs.Text.{AreParameters, poly_text};
 ghost use Rattle.symbol_polys.specs.View.{terms_of, IsPoly};
@@ -93,3 +94,10 @@ pub fn read_poly(
     }
     poly_of(alloc, terms)
 }
+
+/// A text is that of the terms of one polynomial at most; and the terms of a polynomial over the types and the parameters are those of the text that is printed
+/// for them.
+pub fn poly_text_laws()
+    ensures exact { (ty : Types) (ps : List (List ℕ)) (text : List ℕ) (ts us : List PlainTerm) → AreTypes ty → AreParameters ty ps → IsTextOf ty ps text ts → IsTextOf ty ps text us → ts ≡ us }
+    ensures printed { (ty : Types) (ps : List (List ℕ)) (mass : ℤ) (ts : List PlainTerm) → IsPolynomial mass ts → AllByRecursion (λ t. AllByRecursion (IsSymbolOf ty ps) t.symbols) ts → IsTextOf ty ps (poly_text ty ps ts) ts }
+{}
