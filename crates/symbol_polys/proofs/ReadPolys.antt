@@ -1,5 +1,5 @@
 -- What is read of the text of a polynomial.
-use Rattle.std.proofs.Common.{◌≡◌, ℕ, ◌<◌, ◌≤◌, Bool, true, false, List, [], ◌∷◌, ◌++◌, length, map, unsigned_abs, refl, ap, sym, subst, ◌∙◌, arith, inl, inr}
+use Rattle.std.proofs.Common.{◌≡◌, ℕ, ◌<◌, ◌≤◌, Bool, true, false, List, [], ◌∷◌, ◌++◌, length, map, pos, unsigned_abs, refl, ap, sym, subst, ◌∙◌, arith, inl, inr}
 use Rattle.std.proofs.lemmas.Int.{ints}
 use Rattle.std.proofs.lemmas.Slice.Eq.{bytes_eq-Decides}
 use Rattle.std.specs.Prelude.{◌⊎◌, IfOk, IfErr, IsOkUnless, IsTrue}
@@ -21,7 +21,7 @@ use Rattle.symbol_polys.specs.Reading.{IsSymbolOf, IsTextOf, IsTextRefused, IsRe
 use Rattle.symbol_polys.specs.Symbols.{PlainSymbol, monomial_order, HasBoundedTree, IsMonomial}
 use Rattle.symbol_polys.specs.TermReading.{is_numeral, coefficient_digits, written_of, IsTermOf, IsWritten}
 use Rattle.symbol_polys.specs.Text.{AreParameters, body_text, is_negative, signed_texts, poly_text}
-use Rattle.symbol_polys.specs.View.{symbol_of, terms_of}
+use Rattle.symbol_polys.specs.View.{symbol_of, terms_of, IsPoly}
 use Rattle.symbol_polys.specs.declared.error.PolyError.{PolyError}
 use Rattle.symbol_polys.specs.declared.error.PolyError.TheVariants.{CoefficientTooLarge, PolyText, Memory}
 use Rattle.symbol_polys.specs.declared.poly.Poly.{Poly}
@@ -157,6 +157,10 @@ module _ (ty : Types) (ps : List (List ℕ)) (types : AreTypes ty) (parameters :
   pub poly_text_of : (text : List ℕ) (us : List PlainTerm) (r : Result Poly PolyError) → IsTextOf ty ps text us → IfOk r (λ p. terms_of p.terms ≡ us) → IfOk r (λ p. IsTextOf ty ps text (terms_of p.terms))
   poly_text_of text us (Ok p) h e = subst (IsTextOf ty ps text) (sym e) h
   poly_text_of text us (Err x) h e = e
+
+  pub is_poly : (text : List ℕ) (us : List PlainTerm) (r : Result Poly PolyError) → IsTextOf ty ps text us → IfOk r (λ p. terms_of p.terms ≡ us) → IfOk r (λ p. p.mass ≡ pos (size_of us)) → IfOk r IsPoly
+  is_poly text us (Ok p) h e m = rw (m, e) h.polynomial
+  is_poly text us (Err x) h e m = e
 
   pub refused_by : (text : List ℕ) (us : List PlainTerm) (r : Result Poly PolyError) → IsTextOf ty ps text us → IfErr r (IsRefused (overflow ≤ size_of us)) → IfErr r (IsTextRefused ty ps text)
   refused_by text us (Ok p) h e = e

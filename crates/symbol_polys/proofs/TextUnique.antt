@@ -1,5 +1,5 @@
 -- A text is that of one polynomial at most.
-use Rattle.std.proofs.Common.{◌≡◌, ℕ, ◌≤◌, Bool, true, false, List, [], ◌∷◌, map, unsigned_abs, refl, ap, sym, ◌∙◌, arith}
+use Rattle.std.proofs.Common.{◌≡◌, ℕ, Bool, List, [], ◌∷◌, map, unsigned_abs, refl, ap, sym, ◌∙◌, arith}
 use Rattle.std.specs.List.{AllByRecursion}
 use Rattle.degree_numbers.specs.Types.{AreTypes}
 use Rattle.degree_numbers.specs.declared.types.Types.{Types}
@@ -10,13 +10,13 @@ use Rattle.symbol_polys.specs.Polynomials.{PlainTerm}
 use Rattle.symbol_polys.specs.Reading.{IsSymbolOf, IsTextOf}
 use Rattle.symbol_polys.specs.Symbols.{PlainSymbol, parameter, variable, noise, tree, expectation}
 use Rattle.symbol_polys.specs.TermReading.{split_sign, behind_empty, split_power, coefficient_digits, power_factors, signed, expanded, IsPowerOf, IsTermOf}
-use Rattle.symbol_polys.specs.Text.{AreParameters, Power, powers, symbol_text, power_text, is_negative, body_text, poly_text}
+use Rattle.symbol_polys.specs.Text.{AreParameters, Power, powers, symbol_text, power_text, is_negative, body_text}
 use Rattle.symbol_polys.proofs.Numerals.{numeral_exact}
 use Rattle.symbol_polys.proofs.Piecing.{split_power_back}
 use Rattle.symbol_polys.proofs.ReadPolys.{terms_are, none_for_zero}
 use Rattle.symbol_polys.proofs.SignedTexts.{terms_back}
 use Rattle.symbol_polys.proofs.SymbolTexts.{Says, says_of, behind_t, behind_e, behind_none, some_is}
-use Rattle.symbol_polys.proofs.TermTexts.{sign_and_body, IsFactored, factored, powers_are, expanded_powers, signed_back}
+use Rattle.symbol_polys.proofs.TermTexts.{sign_and_body, factored, powers_are, expanded_powers, signed_back}
 
 cons_is : {X : Type 0} {x y : X} {xs ys : List X} → x ≡ y → xs ≡ ys → x ∷ xs ≡ y ∷ ys
 cons_is e f = cc

@@ -73,7 +73,8 @@ pub fn read_poly(
 ) -> Result<Poly, PolyError>
     requires types { AreTypes types.now }
     requires parameters { AreParameters types.now parameters.now }
-    ensures poly { IfOk result (λ p. IsTextOf types.now parameters.now text.now (terms_of p.terms)) }
+    ensures poly { IfOk result IsPoly }
+    ensures text { IfOk result (λ p. IsTextOf types.now parameters.now text.now (terms_of p.terms)) }
     ensures mass { IfOk result (λ p. p.mass ≡ pos (size_of (terms_of p.terms))) }
     ensures refusal { IfErr result (IsTextRefused types.now parameters.now text.now) }
     ensures back { (ts : List PlainTerm) → IsTextOf types.now parameters.now text.now ts → IsReadAs result ts }

@@ -1,7 +1,7 @@
 use Rattle.std.proofs.Common.{◌∷◌, [], map, sym, ◌∙◌}
 use Rattle.std.proofs.lemmas.Slice.Eq.{bytes_eq-Decides}
 use Rattle.symbol_polys.specs.TermReading.{written_of}
-use Rattle.symbol_polys.proofs.ReadPolys.{trees_are, numerals_are, text_is, not_ascending, not_text, written_is, none_read, fault_refused, fault_read, zero_read, poly_text_of, refused_by, read_as, true_is, false_not, no_zero}
+use Rattle.symbol_polys.proofs.ReadPolys.{trees_are, numerals_are, text_is, not_ascending, not_text, written_is, none_read, fault_refused, fault_read, zero_read, is_poly, poly_text_of, refused_by, read_as, true_is, false_not, no_zero}
 use Rattle.symbol_polys.proofs.reading.read_poly.Goals as goal
 
 pub returns-then-eq-clause-back : goal.returns-then-eq-clause-back
@@ -56,6 +56,16 @@ poly_of-requires c = numerals_are c.args.types.now c.args.parameters.now c.requi
 
 pub returns-clause-poly : goal.returns-clause-poly
 returns-clause-poly c =
+    let ty = c.args.types.now in
+    let ps = c.args.parameters.now in
+    let ws = c.in-Ok.terms.items in
+    let same = rw c.as_slice-3.ensures.value at c.in_ok-has_text.ensures.same in
+    let printed = same.0 (true_is c.in_ok-has_text.field-0 c.if-not-branch.false) in
+    let is = text_is ty ps c.requires.types c.requires.parameters c.args.text.now ws c.in-Ok.ensures.written (rw c.as_slice-2.ensures.value at (sym c.are_ascending.ensures ∙ c.if-not-are_ascending.false)) printed in
+    is_poly ty ps c.requires.types c.requires.parameters c.args.text.now (map written_of ws) c.poly_of.result is c.poly_of.ensures.terms c.poly_of.ensures.mass
+
+pub returns-clause-text : goal.returns-clause-text
+returns-clause-text c =
     let ty = c.args.types.now in
     let ps = c.args.parameters.now in
     let ws = c.in-Ok.terms.items in
