@@ -14,7 +14,8 @@ pub fn coefficients_determine()
     ensures derivatives { (s : PlainSymbol) (ts us : List PlainTerm) → HaveSameCoefficients ts us → HaveSameCoefficients (derivatives s ts) (derivatives s us) }
 {}
 
-/// The product of monomials has the symbols of both. The product of lists of terms is commutative, up to the order of what it lists, associative and distributive, and 1 leaves a list as it is.
+/// The product of monomials has the symbols of both. The product of lists of terms is commutative, up to the order of what it lists, associative and
+/// distributive, and 1 leaves a list as it is.
 pub fn product_laws()
     ensures monomial { (m n : List PlainSymbol) → IsMonomial m → IsMonomial n → IsMonomial (monomial_product m n) }
     ensures powers { (s : PlainSymbol) (m n : List PlainSymbol) → power_of s (monomial_product m n) ≡ power_of s m + power_of s n }

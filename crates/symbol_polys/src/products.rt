@@ -102,8 +102,7 @@ fn all_products(alloc: Global, ts: &[Term], us: &[Term]) -> Result<Vec<OrderedTe
 }
 
 /// The product of two polynomials. The new mass is the product of the masses, also where terms cancel. Fails with `CoefficientTooLarge` exactly where the new
-/// mass passes 2^127-1, and for want of memory. Takes memory for a few
-/// times as many terms as the product has, or as are met on the way.
+/// mass passes 2^127-1, and for want of memory. Takes memory for a few times as many terms as the product has, or the sum of its parts on the way.
 pub fn mul(alloc: Global, f: &Poly, g: &Poly) -> Result<Poly, PolyError>
     requires f { IsPoly f.now }
     requires g { IsPoly g.now }
