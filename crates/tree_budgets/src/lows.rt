@@ -1,5 +1,5 @@
 // The low degrees of a rule.
-ghost use Rattle.std.specs.Prelude.{◌≡◌, ◌<◌, IsTrue, ℕ, map, length, IfOk};
+ghost use Rattle.std.specs.Prelude.{◌≡◌, IsTrue, map, IfOk};
 ghost use Rattle.std.specs.List.{All};
 ghost use Rattle.std.specs.declared.option.Option.TheVariants.{Some};
 ghost use Rattle.degree_numbers.specs.Degree.{degree_plus};
@@ -9,7 +9,7 @@ ghost use Rattle.conforming_trees.specs.Conforming.{label, labels};
 ghost use Rattle.conforming_trees.specs.Budgets.{IsUsable, low_at, lows_of};
 ghost use Rattle.equation_file.specs.Accepted.{IsEquation};
 ghost use Rattle.conforming_trees.specs.Conforming.{IsRule};
-ghost use Rattle.tree_budgets.specs.Bounds.{IsModest, IsBounded, AreBounded, AreTypeBounds, IsLowAt, IsLowRow};
+ghost use Rattle.tree_budgets.specs.Bounds.{IsBounded, AreBounded, AreTypeBounds, IsLowAt, IsLowRow};
 
 use crate::sums::{at, is_usable, lows_of, plus, type_degree};
 use degree_numbers::{Degree, TypeId, Types};
@@ -132,8 +132,8 @@ fn lower_each(eq: &Equation, rule: &Rule, lows: &mut Items<Degree>)
     }
 }
 
-/// For each type the least degree of an edge of it with what stands above it, as far as it is found in as many rounds as there are kernels: a tree in which a
-/// kernel stands twice on a path from the root has no least degree.
+/// For each type the least degree of an edge of it with what stands above it, as far as it is found in as many rounds as there are kernels. More are not needed: a
+/// tree in which a kernel stands twice on a path from the root is not the least, since the part above the second is less than that above the first.
 pub(crate) fn least_degrees(
     alloc: Global,
     eq: &Equation,

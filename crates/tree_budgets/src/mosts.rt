@@ -3,7 +3,6 @@ ghost use Rattle.std.specs.Prelude.{◌≡◌, ◌<◌, IsTrue, map, length, IfO
 ghost use Rattle.std.specs.List.{All};
 ghost use Rattle.degree_numbers.specs.Degree.{degree_plus, degree_zero};
 ghost use Rattle.degree_numbers.specs.Types.{AreTypes};
-ghost use Rattle.equation_file.specs.Accepted.{IsEquation};
 ghost use Rattle.conforming_trees.specs.Conforming.{labels};
 ghost use Rattle.conforming_trees.specs.Budgets.{IsNotAbove, IsUsable, lows_of};
 ghost use Rattle.tree_budgets.specs.Bounds.{IsModest, IsBounded, AreBounded, IsTypeTable, IsEnough, AreEnough, IsEnoughRow};
@@ -11,7 +10,6 @@ ghost use Rattle.tree_budgets.specs.Bounds.{IsModest, IsBounded, AreBounded, IsT
 use crate::lows::is_bounded;
 use crate::sums::{NO_DEGREE, at, is_usable, lows_of, type_degree};
 use degree_numbers::{Degree, TypeId, Types};
-use equation_file::Equation;
 use normal_rule::{EdgeType, NodeType, Rule, RuleRow};
 use plain_trees::is_kernel_type;
 use sqlite_items::Items;

@@ -1,5 +1,5 @@
 // Sums over the edge types of a node type.
-ghost use Rattle.std.specs.Prelude.{◌≡◌, ◌≤◌, ◌*◌, ◌↔◌, IsTrue, ℕ, map, length, sum};
+ghost use Rattle.std.specs.Prelude.{◌≡◌, ◌≤◌, ◌*◌, ◌↔◌, IsTrue, map, length, sum};
 ghost use Rattle.degree_numbers.specs.Types.{AreTypes, type_degree};
 ghost use Rattle.plain_trees.specs.Degree.{derivative_degree_of};
 ghost use Rattle.conforming_trees.specs.Conforming.{label};
