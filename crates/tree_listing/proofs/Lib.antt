@@ -1,0 +1,17 @@
+pub mod Walks
+pub mod Plans
+pub mod Growing
+pub mod RootLaws
+pub mod RootMembers
+pub mod Places
+pub mod Planted
+pub mod Keeping
+pub mod Members
+pub mod Takes
+pub mod Gives
+pub mod Settings
+pub mod Gathers
+pub mod RowWholes
+pub mod Base
+pub mod LevelLaws
+pub mod Listings

@@ -1,0 +1,4 @@
+pub mod Gathered
+pub mod Levels
+pub mod Made
+pub mod Roots
