@@ -1,7 +1,7 @@
 -- The cells of a table: for each type, and each class of what is counted, the least excess of the trees that may stand above an edge of this type.
 --   root_labels t == the edge types of the root's edges, as they are drawn
 --   IsDrawn eq rule t == t is over the types of eq and conforms above each edge, its nodes are undecorated, and the edges of each node are drawn in the order of its node type
---   labels_regularity eq es == the regularity of the edge types es: the sum of reg(type) - |p|_s
+--   label_regularity eq e, labels_regularity eq es == the regularity reg(type) - |p|_s of an edge type, and the sum over es
 --   planted_excess eq k c == by how much |k| + deg(c) lies above reg(k)
 --   IsAbove eq rule k c == such a tree may stand above an edge of type k
 --   HasPlanted eq rule q k m v == such a tree above k has the class m and the planted excess v

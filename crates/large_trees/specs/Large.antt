@@ -7,8 +7,8 @@
 --   degree_at_root regularity unit v l == the degree of a tree of the excess v, of the regularity of its node type, and with l entries of the cheapest direction at its root
 --   IsLargeAt q regularity unit planted m v == with as many entries as it lacks this is at most 0
 --   IsLargeCell eq q unit n m v == so it is with the node type n
---   HasNoLarge eq rule q == no candidate of a degree of at most 0 is
 --   HasLargeNode, HasLargeRow, HasLarge == there is such a sum of cells for the node type, for one of the row, of the rule
+--   HasNoLarge eq rule q == no candidate of a degree of at most 0 is too large for this count
 use Rattle.std.specs.Prelude.{◌≢◌, ℤ, ◌≡◌, ℕ, ◌+◌, ◌*◌, ◌<◌, ◌≤◌, max, pos, ◌+ℤ◌, unsigned_abs, List, [], ◌∷◌, slice_index, if◌then◌else◌}
 use Rattle.std.specs.declared.cmp.Ordering.TheVariants.{Greater}
 use Rattle.degree_numbers.specs.Degree.{degree_order, degree_zero}

@@ -1,4 +1,5 @@
 -- Lines of cells: the least excess in each class.
+--   Line == for each class the value of its cell, or none
 --   most_excess == the excesses that are kept are at most this
 --   excess_plus x y, no_excess == the sum, part by part, and 0
 --   standard z == the standard part z alone

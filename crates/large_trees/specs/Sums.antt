@@ -4,7 +4,9 @@
 --   IsPartial q cells es m v == v is a sum of one cell for each of the edge types es, and m the class of these cells and edges together
 --   gap_of eq k n == by how much |k| + reg(n) lies above reg(k), and the coefficient of k in |k|
 --   HasNode eq q cells k n m v == v is such a sum for the node type n, above the gap
---   HasExcess eq rule q cells k m v == of a noise, the class 0 and its degree; of a kernel, such a sum for a node type of its row
+--   HasRow eq q cells k row m v == the row is that of k, and so it is with one of its node types
+--   HasNoise eq k m v == k is a noise, m is 0 and v its coefficient of k, with nothing above its regularity
+--   HasExcess eq rule q cells k m v == so it is with k as a noise, or with one of the rows
 --   IsRound eq rule q cells next == the lines of next have the least of these
 use Rattle.std.specs.Prelude.{◌≡◌, ℕ, ◌+◌, ◌<◌, pos, min, List, [], ◌∷◌, ◌⊎◌, length}
 use Rattle.std.specs.declared.option.Option.TheVariants.{Some}
