@@ -19,12 +19,12 @@ use Rattle.plain_trees.specs.Plain.{Plain}
 use Rattle.plain_trees.specs.Reading.{IsTreeOf}
 use Rattle.plain_trees.specs.Text.{tree_text}
 use Rattle.plain_trees.proofs.Readings.{passes_of}
-use Rattle.symbol_polys.specs.Numerals.{numeral}
+use Rattle.numerals.specs.Numerals.{numeral}
 use Rattle.symbol_polys.specs.Pieces.{is_mark}
 use Rattle.symbol_polys.specs.Reading.{IsSymbolOf}
 use Rattle.symbol_polys.specs.Symbols.{PlainSymbol, parameter, variable, noise, tree, expectation}
 use Rattle.symbol_polys.specs.Text.{AreParameters, parameter_name, symbol_text, Power, power_text}
-use Rattle.symbol_polys.proofs.Numerals.{numeral_digits}
+use Rattle.numerals.proofs.Numerals.{numeral_digits}
 use Rattle.symbol_polys.proofs.Passing.{Passes, passes-append, AreFree, free_pass, free-append, apart_from, written_passes}
 use Rattle.symbol_polys.proofs.SymbolNames.{type_at, parameter_is_name}
 

@@ -9,10 +9,8 @@ pub mod FactorPasses
 pub mod Following
 pub mod JoinLaws
 pub mod LinearLaws
-pub mod Magnitudes
 pub mod MonomialLaws
 pub mod NamedSymbols
-pub mod Numerals
 pub mod Passing
 pub mod PermutedLaws
 pub mod Piecing

@@ -4,14 +4,14 @@ use Rattle.std.specs.Prelude.{◌==◌}
 use Rattle.std.specs.List.{AllByRecursion}
 use Rattle.degree_numbers.specs.Types.{AreTypes}
 use Rattle.degree_numbers.specs.declared.types.Types.{Types}
-use Rattle.symbol_polys.specs.Numerals.{numeral}
+use Rattle.numerals.specs.Numerals.{numeral}
 use Rattle.symbol_polys.specs.Pieces.{is_mark, depth_after, pieces_from, pieces}
 use Rattle.symbol_polys.specs.Reading.{IsSymbolOf}
 use Rattle.symbol_polys.specs.TermReading.{split_parts, split_power}
 use Rattle.symbol_polys.specs.Text.{AreParameters, symbol_text, Power, power_text}
 use Rattle.symbol_polys.proofs.FactorPasses.{carets_apart, symbol_passes, numeral_passes}
-use Rattle.symbol_polys.proofs.Magnitudes.{numeral_is}
-use Rattle.symbol_polys.proofs.Numerals.{numeral_digits}
+use Rattle.numerals.proofs.Magnitudes.{numeral_is}
+use Rattle.numerals.proofs.Numerals.{numeral_digits}
 use Rattle.symbol_polys.proofs.Passing.{Passes, pieces_pass}
 
 -- pieces, each behind its mark

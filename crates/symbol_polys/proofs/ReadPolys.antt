@@ -14,12 +14,12 @@ use Rattle.degree_numbers.specs.Name.{is_name_byte}
 use Rattle.degree_numbers.specs.Types.{AreTypes}
 use Rattle.degree_numbers.specs.declared.types.Types.{Types}
 use Rattle.symbol_polys.specs.Neighbours.{neighbours}
-use Rattle.symbol_polys.specs.Numerals.{numeral}
+use Rattle.numerals.specs.Numerals.{numeral, is_numeral}
 use Rattle.symbol_polys.specs.Pieces.{pieces}
 use Rattle.symbol_polys.specs.Polynomials.{PlainTerm, monomials, size_of, IsRefused}
 use Rattle.symbol_polys.specs.Reading.{IsSymbolOf, IsTextOf, IsTextRefused, IsReadAs}
 use Rattle.symbol_polys.specs.Symbols.{PlainSymbol, monomial_order, HasBoundedTree, IsMonomial}
-use Rattle.symbol_polys.specs.TermReading.{is_numeral, coefficient_digits, written_of, IsTermOf, IsWritten}
+use Rattle.symbol_polys.specs.TermReading.{coefficient_digits, written_of, IsTermOf, IsWritten}
 use Rattle.symbol_polys.specs.Text.{AreParameters, body_text, is_negative, signed_texts, poly_text}
 use Rattle.symbol_polys.specs.View.{symbol_of, terms_of, IsPoly}
 use Rattle.symbol_polys.specs.declared.error.PolyError.{PolyError}
@@ -28,7 +28,7 @@ use Rattle.symbol_polys.specs.declared.poly.Poly.{Poly}
 use Rattle.symbol_polys.specs.declared.written.WrittenTerm.{WrittenTerm}
 use Rattle.symbol_polys.proofs.Ascending.{strict_by, by_strict}
 use Rattle.symbol_polys.proofs.FactorPasses.{Begins}
-use Rattle.symbol_polys.proofs.Magnitudes.{numeral_is, numeral_above}
+use Rattle.numerals.proofs.Magnitudes.{numeral_is, numeral_above}
 use Rattle.symbol_polys.proofs.SymbolLaws.{monomial_order_total}
 use Rattle.symbol_polys.proofs.TermTexts.{factored}
 use Rattle.symbol_polys.proofs.WrittenTerms.{size_signed}

@@ -6,16 +6,16 @@ use Rattle.std.specs.Str.Parse.{digits_value}
 use Rattle.degree_numbers.specs.Name.{is_name_byte}
 use Rattle.degree_numbers.specs.Types.{AreTypes}
 use Rattle.degree_numbers.specs.declared.types.Types.{Types}
-use Rattle.symbol_polys.specs.Numerals.{numeral}
+use Rattle.numerals.specs.Numerals.{numeral, is_numeral}
 use Rattle.symbol_polys.specs.Pieces.{is_mark, depth_after, pieces, unmarked}
 use Rattle.symbol_polys.specs.Polynomials.{PlainTerm}
 use Rattle.symbol_polys.specs.Symbols.{PlainSymbol}
-use Rattle.symbol_polys.specs.TermReading.{is_numeral, split_sign, behind_empty, coefficient_digits, power_factors, signed, expanded, IsTermOf}
+use Rattle.symbol_polys.specs.TermReading.{split_sign, behind_empty, coefficient_digits, power_factors, signed, expanded, IsTermOf}
 use Rattle.symbol_polys.specs.Text.{AreParameters, powers, power_text, body_text, is_negative, signed_texts, poly_text}
 use Rattle.symbol_polys.proofs.FactorPasses.{Begins}
 use Rattle.symbol_polys.proofs.Following.{Writes}
-use Rattle.symbol_polys.proofs.Magnitudes.{numeral_is}
-use Rattle.symbol_polys.proofs.Numerals.{numeral_digits}
+use Rattle.numerals.proofs.Magnitudes.{numeral_is}
+use Rattle.numerals.proofs.Numerals.{numeral_digits}
 use Rattle.symbol_polys.proofs.Passing.{apart_from}
 use Rattle.symbol_polys.proofs.Piecing.{onward, marked, IsMarked, pieces_onward, pieces_first}
 use Rattle.symbol_polys.proofs.TermTexts.{sign_and_body, IsFactored, factored, expanded_powers, signed_back}

@@ -10,7 +10,7 @@ use Rattle.degree_numbers.specs.Name.{is_name_byte}
 use Rattle.degree_numbers.specs.Types.{AreTypes}
 use Rattle.degree_numbers.specs.declared.types.Types.{Types}
 use Rattle.plain_trees.specs.Text.{starred, joined}
-use Rattle.symbol_polys.specs.Numerals.{numeral}
+use Rattle.numerals.specs.Numerals.{numeral}
 use Rattle.symbol_polys.specs.Pieces.{is_mark, pieces, unmarked}
 use Rattle.symbol_polys.specs.Polynomials.{PlainTerm}
 use Rattle.symbol_polys.specs.Reading.{IsSymbolOf}

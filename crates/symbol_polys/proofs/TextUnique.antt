@@ -11,7 +11,7 @@ use Rattle.symbol_polys.specs.Reading.{IsSymbolOf, IsTextOf}
 use Rattle.symbol_polys.specs.Symbols.{PlainSymbol, parameter, variable, noise, tree, expectation}
 use Rattle.symbol_polys.specs.TermReading.{split_sign, behind_empty, split_power, coefficient_digits, power_factors, signed, expanded, IsPowerOf, IsTermOf}
 use Rattle.symbol_polys.specs.Text.{AreParameters, Power, powers, symbol_text, power_text, is_negative, body_text}
-use Rattle.symbol_polys.proofs.Numerals.{numeral_exact}
+use Rattle.numerals.proofs.Numerals.{numeral_exact}
 use Rattle.symbol_polys.proofs.Piecing.{split_power_back}
 use Rattle.symbol_polys.proofs.ReadPolys.{terms_are, none_for_zero}
 use Rattle.symbol_polys.proofs.SignedTexts.{terms_back}

@@ -4,14 +4,14 @@ use Rattle.std.proofs.lemmas.List.{drop_more}
 use Rattle.std.specs.List.{AllByRecursion}
 use Rattle.std.specs.Str.Parse.{digits_value}
 use Rattle.exact_sums.specs.Saturating.{saturated}
-use Rattle.symbol_polys.specs.Numerals.{numeral}
+use Rattle.numerals.specs.Numerals.{numeral, is_numeral}
 use Rattle.symbol_polys.specs.Polynomials.{monomials, size_of}
 use Rattle.symbol_polys.specs.Symbols.{PlainSymbol}
-use Rattle.symbol_polys.specs.TermReading.{is_numeral, signed, written_of}
+use Rattle.symbol_polys.specs.TermReading.{signed, written_of}
 use Rattle.symbol_polys.specs.Text.{is_negative}
 use Rattle.symbol_polys.specs.View.{symbol_of}
 use Rattle.symbol_polys.specs.declared.written.WrittenTerm.{WrittenTerm}
-use Rattle.symbol_polys.proofs.Magnitudes.{numeral_back, numeral_above}
+use Rattle.numerals.proofs.Magnitudes.{numeral_back, numeral_above}
 
 pub size_signed : (b : Bool) (n : ℕ) → unsigned_abs (signed b n) ≡ n
 size_signed true zero = refl

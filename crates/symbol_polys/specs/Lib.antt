@@ -1,7 +1,6 @@
 pub mod Code
 pub mod Derivatives
 pub mod Neighbours
-pub mod Numerals
 pub mod Pieces
 pub mod Polynomials
 pub mod Products

@@ -1,5 +1,4 @@
 -- Terms as they are read.
---   is_numeral ds == ds are digits, and the first of them is not 0
 --   split_power text == the text of the symbol and the exponent of a power
 --   IsPowerOf ty ps x == a power of a symbol over the types and the parameters, its exponent above 0
 --   expanded xs == the monomial of the powers xs
@@ -11,12 +10,13 @@
 --   signed is_negative n == the number with this sign and this absolute value
 --   written_of w == the term that is written
 --   IsWritten ty ps w == its digits are those of a number above 0, and its symbols are such symbols, in order
-use Rattle.std.specs.Prelude.{◌≡◌, ℕ, ◌<◌, ◌==◌, ◌&&◌, not, Bool, true, false, if◌then◌else◌, List, [], ◌∷◌, map, Option, Some, None, ℤ, pos, neg_ℤ, unsigned_abs, replicate}
+use Rattle.std.specs.Prelude.{◌≡◌, ℕ, ◌<◌, ◌==◌, Bool, true, false, if◌then◌else◌, List, [], ◌∷◌, map, Option, Some, None, ℤ, pos, neg_ℤ, unsigned_abs, replicate}
 use Rattle.std.specs.Char.{is_ascii_digit}
-use Rattle.std.specs.List.{list_all, flat_map, AllByRecursion}
+use Rattle.std.specs.List.{flat_map, AllByRecursion}
 use Rattle.std.specs.List.Sorted.{IsSorted}
 use Rattle.std.specs.Str.Parse.{digits_value}
 use Rattle.degree_numbers.specs.declared.types.Types.{Types}
+use Rattle.numerals.specs.Numerals.{is_numeral}
 use Rattle.symbol_polys.specs.Pieces.{pieces, unmarked}
 use Rattle.symbol_polys.specs.Polynomials.{PlainTerm}
 use Rattle.symbol_polys.specs.Reading.{IsSymbolOf}
@@ -24,10 +24,6 @@ use Rattle.symbol_polys.specs.Symbols.{PlainSymbol, symbol_order}
 use Rattle.symbol_polys.specs.Text.{Power}
 use Rattle.symbol_polys.specs.View.{symbol_of}
 use Rattle.symbol_polys.specs.declared.written.WrittenTerm.{WrittenTerm}
-
-abbrev pub is_numeral : List ℕ → Bool
-is_numeral [] = false
-is_numeral (c ∷ cs) = list_all is_ascii_digit (c ∷ cs) && not (c == 48)
 
 abbrev pub split_parts : List (List ℕ) → Option (List ℕ × ℕ)
 split_parts [] = None

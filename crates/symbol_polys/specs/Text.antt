@@ -19,7 +19,7 @@ use Rattle.degree_numbers.specs.EdgeText.{edge_type_text}
 use Rattle.degree_numbers.specs.Types.{kind_of, name_of, AreNames}
 use Rattle.plain_trees.specs.Degree.{HasTypes, IsMultiIndex}
 use Rattle.plain_trees.specs.Text.{joined, starred, tree_text}
-use Rattle.symbol_polys.specs.Numerals.{numeral}
+use Rattle.numerals.specs.Numerals.{numeral}
 use Rattle.symbol_polys.specs.Symbols.{PlainSymbol, parameter, variable, noise, tree, expectation, symbol_order, HasBoundedTree}
 use Rattle.symbol_polys.specs.Polynomials.{PlainTerm}
 

@@ -1,12 +1,13 @@
 // Polynomials are read from their texts.
-ghost use Rattle.std.specs.Prelude.{◌≡◌, ◌≤◌, ◌<◌, ◌↔◌, ◌⊎◌, ℕ, ℤ, List, IsTrue, true, pos, map, IfOk, IfErr, IsOkUnless, MatchOption};
+ghost use Rattle.std.specs.Prelude.{◌≡◌, ◌≤◌, ◌<◌, ◌↔◌, ◌⊎◌, ℕ, ℤ, List, IsTrue, true, pos, map, IfOk, IfErr, IsOkUnless};
 ghost use Rattle.std.specs.List.{AllByRecursion};
 ghost use Rattle.exact_sums.specs.Saturating.{overflow};
 ghost use Rattle.degree_numbers.specs.declared.types.Types.{Types};
 ghost use Rattle.degree_numbers.specs.Types.{AreTypes};
 ghost use Rattle.symbol_polys.specs.Polynomials.{PlainTerm, size_of, IsPolynomial, IsRefused};
 ghost use Rattle.symbol_polys.specs.Reading.{IsSymbolOf, IsTextOf, IsTextRefused, IsReadAs};
-ghost use Rattle.symbol_polys.specs.TermReading.{is_numeral, written_of, IsWritten};
+ghost use Rattle.numerals.specs.Numerals.{is_numeral};
+ghost use Rattle.symbol_polys.specs.TermReading.{written_of, IsWritten};
 ghost use Rattle.symbol_polys.specs.Text.{AreParameters, poly_text};
 ghost use Rattle.symbol_polys.specs.View.{terms_of, IsPoly};
 

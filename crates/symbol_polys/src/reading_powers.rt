@@ -1,13 +1,12 @@
 // Powers of symbols are read from their texts.
-ghost use Rattle.std.specs.Prelude.{◌≡◌, ◌≤◌, ◌+◌, ◌-◌, ◌*◌, ◌⊎◌, ◌∷◌, ◌++◌, List, true, IfOk, IfErr, IfSome, OnOk, IsOkUnless, MatchResult, Some, None, map, replicate, length, drop};
-ghost use Rattle.std.specs.Char.{is_ascii_digit};
-ghost use Rattle.std.specs.List.{AllByRecursion, AllPass, list_all};
+ghost use Rattle.std.specs.Prelude.{◌≡◌, ◌⊎◌, ◌++◌, List, true, IfOk, IfErr, IfSome, OnOk, IsOkUnless, MatchResult, Some, None, map, replicate};
+ghost use Rattle.std.specs.List.{AllByRecursion};
 ghost use Rattle.std.specs.Str.Parse.{digits_value};
-ghost use Rattle.exact_sums.specs.Saturating.{saturated};
 ghost use Rattle.degree_numbers.specs.Types.{AreTypes};
 ghost use Rattle.symbol_polys.specs.Reading.{Answers, IsSymbolOf};
 ghost use Rattle.symbol_polys.specs.Pieces.{unmarked};
-ghost use Rattle.symbol_polys.specs.TermReading.{is_numeral, split_power, IsPowerOf, expanded};
+ghost use Rattle.numerals.specs.Numerals.{is_numeral};
+ghost use Rattle.symbol_polys.specs.TermReading.{split_power, IsPowerOf, expanded};
 ghost use Rattle.symbol_polys.specs.Text.{AreParameters, Power, power_text};
 ghost use Rattle.symbol_polys.specs.View.{symbol_of};
 
@@ -16,46 +15,9 @@ use crate::reading_symbols::read_symbol;
 use crate::splitting::{pieces, unmarked};
 use crate::symbols::{Symbol, copy_symbol};
 use crate::text::Names;
-use exact_sums::Saturated;
+use numerals::{is_numeral, magnitude};
 use sqlite_items::Items;
 use std::alloc::Global;
-
-fn are_digits(text: &[u8]) -> bool
-    ensures { result ≡ list_all is_ascii_digit text.now }
-{
-    text.iter().all(|b| b.is_ascii_digit())
-}
-
-/// Whether these are the digits of a number above 0.
-pub(crate) fn is_numeral(text: &[u8]) -> bool
-    ensures { result ≡ is_numeral text.now }
-{
-    match text {
-        [] => false,
-        [first, ..] => are_digits(text) && *first != b'0',
-    }
-}
-
-// The number with one more digit.
-fn with_digit(number: Saturated, digit: u8) -> Saturated
-    requires { 48 ≤ digit }
-    ensures { result ≡ saturated (number * 10 + (digit - 48)) }
-{
-    let digit = u128::from(digit - b'0');
-    number.times(Saturated::of(10)).plus(Saturated::of(digit))
-}
-
-/// The number that the digits write.
-pub(crate) fn magnitude(digits: &[u8]) -> Saturated
-    requires { is_numeral digits.now ≡ true }
-    ensures { result ≡ saturated (digits_value 10 digits.now) }
-{
-    let mut number = Saturated::of(0);
-    for digit in digits {
-        number = with_digit(number, *digit);
-    }
-    number
-}
 
 // The number that the digits write, where there can be so many symbols.
 fn count_of(digits: &[u8]) -> Option<usize>

@@ -1,9 +1,7 @@
 // Symbols are read from their texts.
-ghost use Rattle.std.specs.Prelude.{◌≡◌, ◌<◌, ◌≤◌, ◌^◌, IfOk, IfSome, length, option_map};
-ghost use Rattle.std.specs.List.{AllByRecursion};
+ghost use Rattle.std.specs.Prelude.{◌≡◌, ◌<◌, ◌≤◌, IfOk, IfSome, length, option_map};
 ghost use Rattle.degree_numbers.specs.Multi.{is_zero};
 ghost use Rattle.degree_numbers.specs.Types.{AreTypes};
-ghost use Rattle.tree_grammar.specs.Grammar.{number_named};
 ghost use Rattle.plain_trees.specs.Reading.{IsTreeOf};
 ghost use Rattle.plain_trees.specs.View.{plain};
 ghost use Rattle.plain_trees.specs.Plain.{Plain};

@@ -12,11 +12,12 @@ ghost use Rattle.symbol_polys.specs.TermReading.{split_sign, behind_empty, begin
 ghost use Rattle.symbol_polys.specs.Text.{AreParameters, is_negative, body_text, poly_text};
 
 use crate::error::PolyError;
-use crate::reading_powers::{is_numeral, read_powers};
+use crate::reading_powers::read_powers;
 use crate::splitting::pieces;
 use crate::symbols::{Symbol, symbol_order};
 use crate::text::Names;
 use crate::written::WrittenTerm;
+use numerals::is_numeral;
 use std::alloc::{AllocError, Global};
 
 // Whether `-` stands at the front, and what stands behind the sign.

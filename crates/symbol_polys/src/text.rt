@@ -1,5 +1,5 @@
 // Texts of polynomials.
-ghost use Rattle.std.specs.Prelude.{◌≡◌, ◌++◌, ◌<◌, ◌≤◌, ◌^◌, [], ◌∷◌, if◌then◌else◌, IfOk, OnOk, IsOkUnless, IsTrue, map, length, unsigned_abs};
+ghost use Rattle.std.specs.Prelude.{◌≡◌, ◌++◌, ◌<◌, ◌≤◌, ◌^◌, [], ◌∷◌, if◌then◌else◌, IfOk, OnOk, IsOkUnless, map, length, unsigned_abs};
 ghost use Rattle.std.specs.List.{AllByRecursion, prefix_len};
 ghost use Rattle.std.specs.Ordering.{is_eq};
 ghost use Rattle.degree_numbers.specs.Types.{AreTypes, name_of};
@@ -7,7 +7,6 @@ ghost use Rattle.plain_trees.specs.Degree.{HasTypes};
 ghost use Rattle.plain_trees.specs.Plain.{edge_count_of};
 ghost use Rattle.plain_trees.specs.Text.{joined, tree_text};
 ghost use Rattle.plain_trees.specs.View.{plain};
-ghost use Rattle.symbol_polys.specs.Numerals.{numeral};
 ghost use Rattle.symbol_polys.specs.Symbols.{tree_in, symbol_order, HasBoundedTree};
 ghost use Rattle.symbol_polys.specs.Text.{IsOver, IsTermOver, symbol_text, power_text, powers, remaining, factors, body_text, signed_texts, poly_text};
 ghost use Rattle.symbol_polys.specs.View.{symbol_of, term_of, terms_of};
@@ -17,6 +16,7 @@ use crate::poly::{Poly, Term};
 use crate::symbols::{Symbol, symbol_order};
 use degree_numbers::{Name, TypeId, Types, put_edge_type};
 use itoa::Buffer;
+use numerals::put_number;
 use plain_trees::{Tree, print_tree};
 use std::alloc::{AllocError, Global};
 
@@ -25,13 +25,6 @@ use std::alloc::{AllocError, Global};
 pub(crate) struct Names<'a> {
     pub(crate) types: &'a Types,
     pub(crate) parameters: &'a [Name],
-}
-
-fn put_number(out: &mut Vec<u8>, n: u128) -> Result<(), AllocError>
-    ensures { OnOk result (out.new.items ≡ out.old.items ++ numeral n) }
-{
-    let mut buffer = Buffer::new();
-    out.extend_from_slice(buffer.format(n).as_bytes())
 }
 
 fn put_name(out: &mut Vec<u8>, types: &Types, kind: TypeId) -> Result<(), AllocError>

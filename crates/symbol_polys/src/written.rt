@@ -1,5 +1,5 @@
 // Terms as they are read, and the polynomials that they make.
-ghost use Rattle.std.specs.Prelude.{◌≡◌, ◌<◌, ◌++◌, ◌∷◌, [], if◌then◌else◌, true, map, IfOk, OnOk, IsOkUnless, is_some, unsigned_abs};
+ghost use Rattle.std.specs.Prelude.{◌≡◌, ◌<◌, ◌++◌, [], true, map, IfOk, OnOk, IsOkUnless};
 ghost use Rattle.std.specs.List.{AllByRecursion};
 ghost use Rattle.std.specs.Ordering.{is_lt};
 ghost use Rattle.std.specs.Str.Parse.{digits_value};
@@ -8,16 +8,17 @@ ghost use Rattle.degree_numbers.specs.Types.{AreTypes};
 ghost use Rattle.symbol_polys.specs.Neighbours.{neighbours};
 ghost use Rattle.symbol_polys.specs.Polynomials.{monomials, size_of};
 ghost use Rattle.symbol_polys.specs.Symbols.{monomial_order, HasBoundedTree};
-ghost use Rattle.symbol_polys.specs.TermReading.{is_numeral, signed, written_of, IsWritten};
+ghost use Rattle.numerals.specs.Numerals.{is_numeral};
+ghost use Rattle.symbol_polys.specs.TermReading.{written_of, IsWritten};
 ghost use Rattle.symbol_polys.specs.Text.{is_negative, body_text, signed_texts, poly_text};
 ghost use Rattle.symbol_polys.specs.View.{symbol_of, term_of, terms_of};
 
 use crate::error::PolyError;
 use crate::poly::Term;
-use crate::reading_powers::magnitude;
 use crate::symbols::{Symbol, monomial_order};
 use crate::text::{Names, put_body};
 use exact_sums::Saturated;
+use numerals::magnitude;
 use sqlite_items::Items;
 use std::alloc::{AllocError, Global};
 

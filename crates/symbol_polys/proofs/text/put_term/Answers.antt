@@ -1,5 +1,5 @@
 use Rattle.std.proofs.Common.{arith, rules, sym, ◌∙◌}
-use Rattle.symbol_polys.proofs.Numerals.{numeral_decimal}
+use Rattle.numerals.proofs.Numerals.{numeral_decimal}
 use Rattle.symbol_polys.proofs.text.put_term.Goals as goal
 
 pub returns : goal.returns

@@ -3,7 +3,8 @@ use Rattle.std.specs.List.{AllByRecursion}
 use Rattle.std.specs.Vec.Iter.{into_iter_items}
 use Rattle.exact_sums.specs.Saturating.{overflow}
 use Rattle.symbol_polys.specs.Polynomials.{size_of}
-use Rattle.symbol_polys.specs.TermReading.{is_numeral, written_of}
+use Rattle.numerals.specs.Numerals.{is_numeral}
+use Rattle.symbol_polys.specs.TermReading.{written_of}
 use Rattle.symbol_polys.specs.View.{terms_of}
 use Rattle.symbol_polys.proofs.written.poly_terms.Given as goal
 

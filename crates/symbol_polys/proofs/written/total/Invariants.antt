@@ -2,7 +2,8 @@ use Rattle.std.proofs.Common.{◌≡◌, ◌+◌, ◌≤◌, true, drop, map}
 use Rattle.std.specs.List.{AllByRecursion}
 use Rattle.exact_sums.specs.Saturating.{overflow, saturated}
 use Rattle.symbol_polys.specs.Polynomials.{size_of}
-use Rattle.symbol_polys.specs.TermReading.{is_numeral, written_of}
+use Rattle.numerals.specs.Numerals.{is_numeral}
+use Rattle.symbol_polys.specs.TermReading.{written_of}
 use Rattle.symbol_polys.proofs.written.total.Given as goal
 
 abbrev pub invariant-loop-term : goal.invariant-loop-term

@@ -11,9 +11,8 @@ use Rattle.std.proofs.lemmas.Str.{digit_value_digit}
 use Rattle.std.proofs.lemmas.Str.Parse.{digit_from_value}
 use Rattle.std.proofs.lemmas.Int.Digits.{digits_value_push}
 use Rattle.exact_sums.specs.Saturating.{saturated}
-use Rattle.symbol_polys.specs.Numerals.{numeral}
-use Rattle.symbol_polys.specs.TermReading.{is_numeral}
-use Rattle.symbol_polys.proofs.Numerals.{AreDigitsOf, numeral_digit, numeral_digits, numeral_value}
+use Rattle.numerals.specs.Numerals.{numeral, is_numeral}
+use Rattle.numerals.proofs.Numerals.{AreDigitsOf, numeral_digit, numeral_digits, numeral_value}
 
 both : (a b : Bool) → (a && b) ≡ true → (a ≡ true) × (b ≡ true)
 both true true h = (refl, refl)

@@ -1,5 +1,5 @@
-use Rattle.symbol_polys.proofs.Magnitudes.{numeral_at, magnitude_push}
-use Rattle.symbol_polys.proofs.reading_powers.magnitude.Goals as goal
+use Rattle.numerals.proofs.Magnitudes.{numeral_at, magnitude_push}
+use Rattle.numerals.proofs.digits.magnitude.Goals as goal
 
 pub loop-digit-preserved : goal.loop-digit-preserved
 loop-digit-preserved c =
