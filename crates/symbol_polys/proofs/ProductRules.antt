@@ -7,7 +7,7 @@ use Rattle.std.proofs.lemmas.Int.{ints}
 use Rattle.ordered_lists.specs.Subs.{count_of}
 use Rattle.ordered_lists.proofs.Unique.{by_counts}
 use Rattle.symbol_polys.specs.Symbols.{PlainSymbol, symbol_order, IsMonomial}
-use Rattle.symbol_polys.specs.Polynomials.{PlainTerm, monomials, coefficient_of, HaveSameCoefficients}
+use Rattle.symbol_polys.specs.Polynomials.{PlainTerm, monomials, coefficient_of, HaveSameCoefficients, times, times_all}
 use Rattle.symbol_polys.specs.Products.{with_symbol, monomial_product, term_product, products_with, products}
 use Rattle.symbol_polys.proofs.SymbolLaws.{symbol_order_total, symbol_order_exact}
 use Rattle.symbol_polys.proofs.MonomialLaws.{is_monomial-product}
@@ -116,3 +116,21 @@ with_one (u ∷ us) =
 
 pub products-one : (us : List PlainTerm) → products (record { coefficient = pos 1; symbols = [] } ∷ []) us ≡ us
 products-one us = append-nil (products_with (record { coefficient = pos 1; symbols = [] }) us) ∙ with_one us
+
+-- a multiple of the first factor
+with_times : (z : ℤ) (t : PlainTerm) (us : List PlainTerm) → products_with (times z t) us ≡ times_all z (products_with t us)
+with_times z t [] = refl
+with_times z t (u ∷ us) =
+    ap (λ (v : PlainTerm). v ∷ products_with (times z t) us) (same_term (term_product (times z t) u) (times z (term_product t u)) (times_times z t.coefficient u.coefficient) refl)
+    ∙ ap (λ (vs : List PlainTerm). times z (term_product t u) ∷ vs) (with_times z t us)
+
+times_all-append : (z : ℤ) (ts us : List PlainTerm) → times_all z (ts ++ us) ≡ times_all z ts ++ times_all z us
+times_all-append z [] us = refl
+times_all-append z (t ∷ ts) us = ap (λ (vs : List PlainTerm). times z t ∷ vs) (times_all-append z ts us)
+
+pub products-times_all : (z : ℤ) (ts us : List PlainTerm) → products (times_all z ts) us ≡ times_all z (products ts us)
+products-times_all z [] us = refl
+products-times_all z (t ∷ ts) us =
+    ap (λ (vs : List PlainTerm). vs ++ products (times_all z ts) us) (with_times z t us)
+    ∙ ap (λ (vs : List PlainTerm). times_all z (products_with t us) ++ vs) (products-times_all z ts us)
+    ∙ sym (times_all-append z (products_with t us) (products ts us))

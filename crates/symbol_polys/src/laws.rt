@@ -2,7 +2,7 @@
 ghost use Rattle.std.specs.Prelude.{◌≡◌, ◌+◌, ℤ, pos, List, [], ◌∷◌, ◌++◌};
 ghost use Rattle.std.specs.List.{AllByRecursion};
 ghost use Rattle.symbol_polys.specs.Symbols.{PlainSymbol, IsMonomial};
-ghost use Rattle.symbol_polys.specs.Polynomials.{PlainTerm, monomials, HaveSameCoefficients, IsPolynomial};
+ghost use Rattle.symbol_polys.specs.Polynomials.{PlainTerm, monomials, HaveSameCoefficients, IsPolynomial, times_all};
 ghost use Rattle.symbol_polys.specs.Products.{monomial_product, products};
 ghost use Rattle.symbol_polys.specs.Derivatives.{power_of, derivatives};
 
@@ -22,6 +22,7 @@ pub fn product_laws()
     ensures commutative { (ts us : List PlainTerm) → AllByRecursion IsMonomial (monomials ts) → AllByRecursion IsMonomial (monomials us) → HaveSameCoefficients (products ts us) (products us ts) }
     ensures associative { (ts us vs : List PlainTerm) → AllByRecursion IsMonomial (monomials ts) → AllByRecursion IsMonomial (monomials us) → AllByRecursion IsMonomial (monomials vs) → products (products ts us) vs ≡ products ts (products us vs) }
     ensures distributive { (ts us vs : List PlainTerm) → products (ts ++ us) vs ≡ products ts vs ++ products us vs }
+    ensures multiple { (z : ℤ) (ts us : List PlainTerm) → products (times_all z ts) us ≡ times_all z (products ts us) }
     ensures one { (us : List PlainTerm) → products (record { coefficient = pos 1; symbols = [] } ∷ []) us ≡ us }
 {}
 

@@ -1,5 +1,5 @@
 use Rattle.symbol_polys.proofs.MonomialLaws.{is_monomial-product}
-use Rattle.symbol_polys.proofs.ProductRules.{count-product, products-commutative, products-associative, products-append, products-one}
+use Rattle.symbol_polys.proofs.ProductRules.{count-product, products-commutative, products-associative, products-append, products-one, products-times_all}
 use Rattle.symbol_polys.proofs.laws.product_laws.Goals as goal
 
 pub returns-clause-commutative : goal.returns-clause-commutative
@@ -19,3 +19,6 @@ returns-clause-monomial c = is_monomial-product
 
 pub returns-clause-powers : goal.returns-clause-powers
 returns-clause-powers c = count-product
+
+pub returns-clause-multiple : goal.returns-clause-multiple
+returns-clause-multiple c = products-times_all
