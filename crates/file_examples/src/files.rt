@@ -1,7 +1,52 @@
-// The line that refuses a file.
+// A file by its lines, and the line that refuses a file.
+use Line::{Noise, Parameters, Scaling, Top, Unknown, Version};
 use equation_file::read_equation;
 use std::alloc::{AllocError, Global};
 use workbench_cli::{Refusal, print_refusal};
+
+#[derive(Clone, Copy, PartialEq, Eq)]
+pub enum Line {
+    Version,
+    Scaling,
+    Parameters,
+    Noise,
+    Unknown,
+    Top,
+}
+
+// A file by its lines; the last one is empty.
+const FILE: [(Line, &str); 6] = [
+    (Version, "version = 1"),
+    (Scaling, "scaling = [2, 1]"),
+    (Parameters, "parameters = ['a']"),
+    (Noise, "noise = [{ name = 'xi', degree = '-1' }]"),
+    (
+        Unknown,
+        "unknown = [{ name = 'u', degree = '2', regularity = '0', right = '' }]",
+    ),
+    (Top, ""),
+];
+
+// The file with these lines in the place of others, from its first line on or from its last.
+pub fn file_with(
+    alloc: Global,
+    changes: &[(Line, &str)],
+    backwards: bool,
+) -> Result<Vec<u8>, AllocError> {
+    let mut file = Vec::new(alloc);
+    for i in 0..FILE.len() {
+        let place = if backwards { FILE.len() - 1 - i } else { i };
+        let (line, mut text) = FILE[place];
+        for (changed, change) in changes {
+            if *changed == line {
+                text = *change;
+            }
+        }
+        file.extend_from_slice(text.as_bytes())?;
+        file.push(b'\n')?;
+    }
+    Ok(file)
+}
 
 // The pieces of a text, one after the other.
 pub fn joined(alloc: Global, pieces: &[&str]) -> Result<Vec<u8>, AllocError> {

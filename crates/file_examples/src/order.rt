@@ -1,32 +1,11 @@
 // Which of two faults is told.
-use crate::files::{line_of, line_with};
-use Line::{Noise, Parameters, Scaling, Unknown, Version};
-use std::alloc::{AllocError, Global};
+use crate::files::Line::{Noise, Parameters, Scaling, Top, Unknown, Version};
+use crate::files::{Line, file_with, line_of, line_with};
 use std::test::Fail;
-
-#[derive(Clone, Copy, PartialEq, Eq)]
-enum Line {
-    Version,
-    Scaling,
-    Parameters,
-    Noise,
-    Unknown,
-}
-
-const FILE: [(Line, &str); 5] = [
-    (Version, "version = 1"),
-    (Scaling, "scaling = [2, 1]"),
-    (Parameters, "parameters = ['a']"),
-    (Noise, "noise = [{ name = 'xi', degree = '-1' }]"),
-    (
-        Unknown,
-        "unknown = [{ name = 'u', degree = '2', regularity = '0', right = '' }]",
-    ),
-];
 
 // Lines with a fault, in the order in which faults are sought.
 const FAULTS: [(Line, &str, &str); 20] = [
-    (Parameters, "colour = 1", "4 Malformed file key"),
+    (Top, "colour = 1", "4 Malformed file key"),
     (Version, "version = 2", "4 Malformed version value"),
     (Scaling, "scaling = 2", "4 Malformed scaling kind"),
     (
@@ -107,27 +86,6 @@ const FAULTS: [(Line, &str, &str); 20] = [
         "5 Limit denominator 1001000",
     ),
 ];
-
-// The file with these lines in the place of others, from its first line on or from its last.
-fn file_with(
-    alloc: Global,
-    changes: &[(Line, &str); 2],
-    backwards: bool,
-) -> Result<Vec<u8>, AllocError> {
-    let mut file = Vec::new(alloc);
-    for i in 0..FILE.len() {
-        let place = if backwards { FILE.len() - 1 - i } else { i };
-        let (line, mut text) = FILE[place];
-        for (changed, change) in changes {
-            if *changed == line {
-                text = *change;
-            }
-        }
-        file.extend_from_slice(text.as_bytes())?;
-        file.push(b'\n')?;
-    }
-    Ok(file)
-}
 
 #[test]
 fn the_first_of_two_faults_is_told(rt: HostRuntime) -> Result<(), Fail> {

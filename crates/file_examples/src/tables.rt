@@ -1,29 +1,7 @@
 // Each reason of each entry, in the order in which faults are sought.
-use crate::files::{joined, line_of, line_with};
-use Line::{Noise, Parameters, Scaling, Top, Unknown, Version};
+use crate::files::Line::{Noise, Parameters, Scaling, Top, Unknown, Version};
+use crate::files::{Line, file_with, joined, line_of, line_with};
 use std::test::Fail;
-
-#[derive(Clone, Copy, PartialEq, Eq)]
-enum Line {
-    Version,
-    Scaling,
-    Parameters,
-    Noise,
-    Unknown,
-    Top,
-}
-
-const FILE: [(Line, &str); 6] = [
-    (Version, "version = 1"),
-    (Scaling, "scaling = [2, 1]"),
-    (Parameters, "parameters = ['a']"),
-    (Noise, "noise = [{ name = 'xi', degree = '-1' }]"),
-    (
-        Unknown,
-        "unknown = [{ name = 'u', degree = '2', regularity = '0', right = '' }]",
-    ),
-    (Top, ""),
-];
 
 // A line in the place of another, and the entry and the reason of the fault.
 const FAULTS: [(Line, &str, &str); 51] = [
@@ -207,12 +185,7 @@ const FAULTS: [(Line, &str, &str); 51] = [
 #[test]
 fn each_reason_of_each_entry(rt: HostRuntime) -> Result<(), Fail> {
     for (changed, text, fault) in FAULTS {
-        let mut file = Vec::new(rt.alloc());
-        for (line, value) in FILE {
-            let value = if line == changed { text } else { value };
-            file.extend_from_slice(value.as_bytes())?;
-            file.push(b'\n')?;
-        }
+        let file = file_with(rt.alloc(), &[(changed, text)], false)?;
         let wanted = joined(rt.alloc(), &["refused 4 Malformed ", fault, "\n"])?;
         assert_eq!(rt; line_of(rt.alloc(), &file)?, wanted, "{text}");
     }
