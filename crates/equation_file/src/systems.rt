@@ -43,6 +43,30 @@ fn has_types(eq: &Equation, types: &[(&[u8], Kind, i64, i64, u8)]) -> bool {
         })
 }
 
+// The second unknown has no right side; the terms of the first that cancel are gone.
+fn has_unknowns(eq: &Equation) -> bool {
+    match eq.unknowns.as_slice() {
+        [u, v] => {
+            u.kernel == TypeId(4)
+                && u.regularity == (Degree { a: 3, b: 0 })
+                && v.kernel == TypeId(5)
+                && v.right.len() == 0
+                && has_right(u.right.as_slice())
+        }
+        _ => false,
+    }
+}
+
+// 1/3*b and 2*b are one term; -1/6*d*a is the other.
+fn has_right(right: &[RightTerm]) -> bool {
+    match right {
+        [b, a] => {
+            is_term(b, 14, &[], &[(TypeId(2), ZERO)]) && is_term(a, -1, &[1], &[(TypeId(0), ZERO)])
+        }
+        _ => false,
+    }
+}
+
 // The units are 1/12, the denominator is 6: it is that of the coefficients as they are written, also of those that cancel.
 #[test]
 fn a_system_with_parameters_and_groups(rt: HostRuntime) {
@@ -69,24 +93,5 @@ fn a_system_with_parameters_and_groups(rt: HostRuntime) {
             ]
         )
     );
-    let unknowns = eq.unknowns.as_slice();
-    assert_eq!(rt; unknowns.len(), 2);
-    assert_eq!(rt;
-        (unknowns[0].kernel, unknowns[0].regularity),
-        (TypeId(4), Degree { a: 3, b: 0 })
-    );
-    assert_eq!(rt;
-        (unknowns[1].kernel, unknowns[1].right.len()),
-        (TypeId(5), 0)
-    );
-    let right = unknowns[0].right.as_slice();
-    assert_eq!(rt; right.len(), 2);
-    assert!(rt;
-        is_term(&right[0], 14, &[], &[(TypeId(2), ZERO)]),
-        "1/3*b and 2*b"
-    );
-    assert!(rt;
-        is_term(&right[1], -1, &[1], &[(TypeId(0), ZERO)]),
-        "-1/6*d*a"
-    );
+    assert!(rt; has_unknowns(&eq));
 }

@@ -51,10 +51,14 @@ fn counts_at_their_limits(rt: HostRuntime) -> Result<(), Fail> {
         } else {
             UNKNOWN
         };
-        for count in [most, most + 1] {
+        for count in [most, most.saturating_add(1)] {
             let items = numbered(rt.alloc(), item, count)?;
             let file = joined(rt.alloc(), &[TOP, before, &items, behind, rest])?;
-            let measured = if which == "terms" { count + 1 } else { count };
+            let measured = if which == "terms" {
+                count.saturating_add(1)
+            } else {
+                count
+            };
             let words = format!(in rt.alloc(); "5 Limit {which} {measured}")?;
             let wanted = if count == most { "" } else { words.as_str() };
             assert_eq!(rt;

@@ -27,6 +27,21 @@ const FILE: [(Line, &str); 6] = [
     (Top, ""),
 ];
 
+// What stands in a line: the first change of this line, else its text.
+fn text_at<'a>(line: Line, text: &'a str, changes: &[(Line, &'a str)]) -> &'a str {
+    for (changed, change) in changes {
+        if *changed == line {
+            return change;
+        }
+    }
+    text
+}
+
+fn put_line(file: &mut Vec<u8>, text: &str) -> Result<(), AllocError> {
+    file.extend_from_slice(text.as_bytes())?;
+    file.extend_from_slice(b"\n")
+}
+
 // The file with these lines in the place of others, from its first line on or from its last.
 pub fn file_with(
     alloc: Global,
@@ -34,16 +49,14 @@ pub fn file_with(
     backwards: bool,
 ) -> Result<Vec<u8>, AllocError> {
     let mut file = Vec::new(alloc);
-    for i in 0..FILE.len() {
-        let place = if backwards { FILE.len() - 1 - i } else { i };
-        let (line, mut text) = FILE[place];
-        for (changed, change) in changes {
-            if *changed == line {
-                text = *change;
-            }
+    if backwards {
+        for (line, text) in FILE.into_iter().rev() {
+            put_line(&mut file, text_at(line, text, changes))?;
         }
-        file.extend_from_slice(text.as_bytes())?;
-        file.push(b'\n')?;
+    } else {
+        for (line, text) in FILE {
+            put_line(&mut file, text_at(line, text, changes))?;
+        }
     }
     Ok(file)
 }

@@ -90,15 +90,17 @@ const FAULTS: [(Line, &str, &str); 20] = [
 #[test]
 fn the_first_of_two_faults_is_told(rt: HostRuntime) -> Result<(), Fail> {
     for (i, (first, earlier, wanted)) in FAULTS.into_iter().enumerate() {
-        for (second, later, _) in &FAULTS[i..] {
-            let changes = [(*second, *later), (first, earlier)];
-            for backwards in [false, true] {
-                let file = file_with(rt.alloc(), &changes, backwards)?;
-                assert_eq!(rt;
-                    line_of(rt.alloc(), &file)?,
-                    line_with(rt.alloc(), wanted)?,
-                    "{earlier} and {later}"
-                );
+        for (j, (second, later, _)) in FAULTS.into_iter().enumerate() {
+            if i <= j {
+                let changes = [(first, earlier), (second, later)];
+                for backwards in [false, true] {
+                    let file = file_with(rt.alloc(), &changes, backwards)?;
+                    assert_eq!(rt;
+                        line_of(rt.alloc(), &file)?,
+                        line_with(rt.alloc(), wanted)?,
+                        "{earlier} and {later}"
+                    );
+                }
             }
         }
     }

@@ -128,7 +128,9 @@ fn bytes_after_the_text(rt: HostRuntime) -> Result<(), Fail> {
         (70000, b'#', "refused 5 Limit bytes 65537\n"),
     ] {
         let mut file = PAM.as_bytes().to_vec(rt.alloc())?;
-        file.resize(size.max(PAM.len() + 1), byte)?;
+        file.push(byte)?;
+        let size = size.max(file.len());
+        file.resize(size, byte)?;
         let run = run_program(rt.alloc(), "check file", &file, &[], &[])?;
         assert_eq!(rt; run.err.as_slice(), wanted.as_bytes(), "{size} bytes");
     }
