@@ -42,7 +42,7 @@ sorted-without s (t ∷ m) h =
 pub is_monomial-without : (s : PlainSymbol) (m : List PlainSymbol) → IsMonomial m → IsMonomial (without s m)
 is_monomial-without s m h = record { ascending = sorted-without s m h.ascending; trees = all-without HasBoundedTree s m h.trees }
 
-length-without : (s : PlainSymbol) (m : List PlainSymbol) → 0 < power_of s m → length (without s m) + 1 ≡ length m
+pub length-without : (s : PlainSymbol) (m : List PlainSymbol) → 0 < power_of s m → length (without s m) + 1 ≡ length m
 length-without s [] h = absurd (omega (arith, h))
 length-without s (t ∷ m) h =
     (elim (is_equal s t) as (λ b. 0 < cond b 1 0 + power_of s m → length (cond b m (t ∷ without s m)) + 1 ≡ length (t ∷ m)) [
@@ -99,7 +99,7 @@ not_both Less h k = absurd cc
 not_both Equal h k = absurd cc
 not_both Greater h k = absurd cc
 
-power_within : (s : PlainSymbol) (m : List PlainSymbol) → power_of s m ≤ length m
+pub power_within : (s : PlainSymbol) (m : List PlainSymbol) → power_of s m ≤ length m
 power_within s [] = omega arith
 power_within s (t ∷ m) = elim (is_equal s t) as (λ b. cond b 1 0 + power_of s m ≤ length (t ∷ m)) [ true ↦ omega (arith, power_within s m) | false ↦ omega (arith, power_within s m) ]
 

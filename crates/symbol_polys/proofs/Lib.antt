@@ -1,5 +1,6 @@
 pub mod AddLaws
 pub mod Ascending
+pub mod Collected
 pub mod CongruenceLaws
 pub mod Cuts
 pub mod DerivativeLaws

@@ -74,20 +74,20 @@ determined (t ∷ ts) (u ∷ us) st su nt nu h =
     ]) refl
 
 -- the polynomial of a list of terms, by insertion
-abbrev with_term_at : Ordering → PlainTerm → PlainTerm → List PlainTerm → List PlainTerm → List PlainTerm
+abbrev pub with_term_at : Ordering → PlainTerm → PlainTerm → List PlainTerm → List PlainTerm → List PlainTerm
 with_term_at Less t u us rest = kept t (u ∷ us)
 with_term_at Equal t u us rest = kept (plus t u) us
 with_term_at Greater t u us rest = u ∷ rest
 
-abbrev with_term : PlainTerm → List PlainTerm → List PlainTerm
+abbrev pub with_term : PlainTerm → List PlainTerm → List PlainTerm
 with_term t [] = kept t []
 with_term t (u ∷ us) = with_term_at (monomial_order t.symbols u.symbols) t u us (with_term t us)
 
-abbrev normal : List PlainTerm → List PlainTerm
+abbrev pub normal : List PlainTerm → List PlainTerm
 normal [] = []
 normal (t ∷ ts) = with_term t (normal ts)
 
-all-with_term : (P : List PlainSymbol → Type 0) (t : PlainTerm) (us : List PlainTerm) → P t.symbols → AllByRecursion P (monomials us) → AllByRecursion P (monomials (with_term t us))
+pub all-with_term : (P : List PlainSymbol → Type 0) (t : PlainTerm) (us : List PlainTerm) → P t.symbols → AllByRecursion P (monomials us) → AllByRecursion P (monomials (with_term t us))
 all-with_term P t [] p h = all-kept P t [] p tt
 all-with_term P t (u ∷ us) p h =
     elim (monomial_order t.symbols u.symbols) as (λ (o : Ordering). AllByRecursion P (monomials (with_term_at o t u us (with_term t us)))) [
@@ -107,7 +107,7 @@ strict-with_term t (u ∷ us) h =
       | Greater ↦ λ e. (all-with_term (λ n. monomial_order u.symbols n ≡ Less) t us (monomial_order_total.antisymm u.symbols t.symbols ∙ ap ordering_reverse e) h.0, rest)
     ]) refl
 
-strict-normal : (ts : List PlainTerm) → IsStrictlySortedBy monomial_order (monomials (normal ts))
+pub strict-normal : (ts : List PlainTerm) → IsStrictlySortedBy monomial_order (monomials (normal ts))
 unfolding IsStrictlySortedBy
 strict-normal [] = tt
 strict-normal (t ∷ ts) = strict-with_term t (normal ts) (strict-normal ts)
@@ -121,7 +121,7 @@ not_zero-with_term t (u ∷ us) h =
       | Greater ↦ (h.0, not_zero-with_term t us h.1)
     ]
 
-not_zero-normal : (ts : List PlainTerm) → AllByRecursion (λ u. 0 < unsigned_abs u.coefficient) (normal ts)
+pub not_zero-normal : (ts : List PlainTerm) → AllByRecursion (λ u. 0 < unsigned_abs u.coefficient) (normal ts)
 not_zero-normal [] = tt
 not_zero-normal (t ∷ ts) = not_zero-with_term t (normal ts) (not_zero-normal ts)
 
@@ -166,7 +166,7 @@ at-linear m = record {
   none = λ t h. none_at (is_eq (monomial_order t.symbols m)) t.coefficient h;
 }
 
-coefficient_of-normal : (m : List PlainSymbol) (ts : List PlainTerm) → coefficient_of m (normal ts) ≡ coefficient_of m ts
+pub coefficient_of-normal : (m : List PlainSymbol) (ts : List PlainTerm) → coefficient_of m (normal ts) ≡ coefficient_of m ts
 coefficient_of-normal m ts = coefficient_total m (normal ts) ∙ total_of-normal (at m) (at-linear m) ts ∙ sym (coefficient_total m ts)
 
 pub same_totals : (f : PlainTerm → ℤ) → IsLinear f → (ts us : List PlainTerm) → HaveSameCoefficients ts us → total_of f ts ≡ total_of f us

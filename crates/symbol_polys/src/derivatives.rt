@@ -59,7 +59,7 @@ fn without(alloc: Global, by: &Symbol, symbols: &[Symbol]) -> Result<Items<Symbo
     Ok(rest)
 }
 
-fn absolute_coefficient(term: &Term) -> Saturated
+pub(crate) fn absolute_coefficient(term: &Term) -> Saturated
     ensures { result ≡ saturated (unsigned_abs term.now.coefficient) }
 {
     Saturated::of(term.coefficient.unsigned_abs())
@@ -101,6 +101,18 @@ fn derived_term(alloc: Global, by: &Symbol, power: usize, term: &Term) -> Result
         coefficient: multiple(power as i128, term.coefficient),
         symbols: without(alloc, by, term.symbols.as_slice())?,
     })
+}
+
+/// The derivative of a term by a symbol: the coefficient times the power of the symbol, which is 0 where the symbol does not stand in the term, and the monomial
+/// with one of it less. Fails only for want of memory.
+pub fn derive_term(alloc: Global, by: &Symbol, term: &Term) -> Result<Term, PolyError>
+    requires small { edge_count_of (tree_in (symbol_of by.now)) ≤ 24 }
+    requires trees { AllByRecursion HasBoundedTree (map symbol_of term.now.symbols) }
+    requires fits { power_of (symbol_of by.now) (map symbol_of term.now.symbols) * unsigned_abs term.now.coefficient < overflow }
+    ensures value { IfOk result (λ t. term_of t ≡ derivative (symbol_of by.now) (term_of term.now)) }
+    ensures memory { IsOkUnless result PolyError.Memory }
+{
+    derived_term(alloc, by, power(by, term.symbols.as_slice()), term)
 }
 
 // The derivatives of the terms in which the symbol stands. They keep their order, and no two are of one monomial.

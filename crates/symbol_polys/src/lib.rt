@@ -16,19 +16,21 @@ mod reading_terms;
 mod splitting;
 mod sums;
 mod symbols;
+mod term_sums;
 #[cfg(test)]
 mod tests;
 mod text;
 mod written;
 
-pub use derivatives::derive;
+pub use derivatives::{derive, derive_term};
 pub use error::PolyError;
 pub use laws::{coefficients_determine, derivative_laws, product_laws};
 pub use poly::{Poly, Term, one, scale, symbol, zero};
-pub use products::mul;
+pub use products::{mul, with_symbol};
 pub use reading::{poly_text_laws, read_poly};
 pub use sums::add;
 pub use symbols::{
     Symbol, copy_symbol, copy_symbols, monomial_order, symbol_order, symbol_order_laws,
 };
+pub use term_sums::sum_of_terms;
 pub use text::print_poly;

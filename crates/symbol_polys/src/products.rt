@@ -2,9 +2,9 @@
 ghost use Rattle.std.specs.Prelude.{◌≡◌, ◌<◌, ◌≤◌, ◌*◌, pos, ◌++◌, List, map, IfOk, IfErr, OnOk, IsOkUnless, unsigned_abs};
 ghost use Rattle.std.specs.List.{AllByRecursion};
 ghost use Rattle.exact_sums.specs.Saturating.{overflow};
-ghost use Rattle.symbol_polys.specs.Symbols.{PlainSymbol, IsMonomial};
+ghost use Rattle.symbol_polys.specs.Symbols.{PlainSymbol, HasBoundedTree, IsMonomial};
 ghost use Rattle.symbol_polys.specs.Polynomials.{coefficient_of, monomials, size_of, HaveSameCoefficients, IsRefused};
-ghost use Rattle.symbol_polys.specs.Products.{monomial_product, term_product, products_with, products};
+ghost use Rattle.symbol_polys.specs.Products.{with_symbol, monomial_product, term_product, products_with, products};
 ghost use Rattle.symbol_polys.specs.View.{symbol_of, term_of, terms_of, IsPoly};
 
 use crate::collecting::{OrderedTerm, collected, put, simplified};
@@ -43,6 +43,22 @@ fn monomial_product(alloc: Global, a: &[Symbol], b: &[Symbol]) -> Result<Items<S
     product.append(copy_symbols(alloc, &a[i..])?)?;
     product.append(copy_symbols(alloc, &b[j..])?)?;
     Ok(product)
+}
+
+/// The product of a symbol and a monomial, as a new monomial. Fails only for want of memory.
+pub fn with_symbol(
+    alloc: Global,
+    s: Symbol,
+    symbols: &[Symbol],
+) -> Result<Items<Symbol>, PolyError>
+    requires s { HasBoundedTree (symbol_of s) }
+    requires symbols { IsMonomial (map symbol_of symbols.now) }
+    ensures value { IfOk result (λ m. map symbol_of m ≡ with_symbol (symbol_of s) (map symbol_of symbols.now)) }
+    ensures memory { IsOkUnless result PolyError.Memory }
+{
+    let mut single = Items::new(alloc);
+    single.push(s)?;
+    monomial_product(alloc, single.as_slice(), symbols)
 }
 
 fn term_product(alloc: Global, t: &Term, u: &Term) -> Result<Term, PolyError>

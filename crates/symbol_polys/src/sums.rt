@@ -13,7 +13,8 @@ use crate::poly::{Poly, Term, made};
 use crate::symbols::copy_symbols;
 use std::alloc::Global;
 
-fn push_copies(alloc: Global, terms: &mut Vec<OrderedTerm>, from: &[Term]) -> Result<(), PolyError>
+/// Puts copies of terms to those that are to be collected.
+pub(crate) fn push_copies(alloc: Global, terms: &mut Vec<OrderedTerm>, from: &[Term]) -> Result<(), PolyError>
     requires { AllByRecursion IsMonomial (monomials (terms_of from.now)) }
     ensures items { OnOk result (terms.new.items ≡ terms.old.items ++ terms_of from.now) }
     ensures memory { IsOkUnless result PolyError.Memory }

@@ -1,5 +1,6 @@
 use crate::{
-    PolyError, Symbol, add, copy_symbol, derive, mul, one, scale, symbol, symbol_order, zero,
+    PolyError, Symbol, Term, add, copy_symbol, copy_symbols, derive, derive_term, mul, one, scale,
+    sum_of_terms, symbol, symbol_order, with_symbol, zero,
 };
 use degree_numbers::{Multi, TypeId};
 use plain_trees::Tree;
@@ -161,6 +162,33 @@ fn the_coefficients_of_a_derivative_refuse_and_not_its_old_mass(rt: HostRuntime)
             .mass,
         1
     );
+}
+
+#[test]
+fn terms_are_summed_derived_and_multiplied(rt: HostRuntime) {
+    let v = Symbol::Variable(TypeId(1), Multi::zero());
+    let one = Items::new(rt.alloc());
+    let v_alone = with_symbol(rt.alloc(), v, one.as_slice()).expect(&rt, "v");
+    let symbols = with_symbol(rt.alloc(), Symbol::Parameter(0), v_alone.as_slice()).expect(&rt, "p*v");
+    assert_eq!(rt; symbols.len(), 2);
+    assert_eq!(rt; symbol_order(&symbols.as_slice()[0], &Symbol::Parameter(0)), Ordering::Equal);
+    let by = Symbol::Variable(TypeId(1), Multi::zero());
+    let term = Term {
+        coefficient: 5,
+        symbols,
+    };
+    let derived = derive_term(rt.alloc(), &by, &term).expect(&rt, "derivative");
+    assert_eq!(rt; (derived.coefficient, derived.symbols.len()), (5, 1));
+    let mut terms = Vec::new(rt.alloc());
+    terms.push(term).expect(&rt, "first");
+    terms.push(derived).expect(&rt, "second");
+    let minus = Term {
+        coefficient: -5,
+        symbols: copy_symbols(rt.alloc(), terms.as_slice()[0].symbols.as_slice()).expect(&rt, "copy"),
+    };
+    terms.push(minus).expect(&rt, "third");
+    let sum = sum_of_terms(rt.alloc(), terms.as_slice()).expect(&rt, "sum");
+    assert_eq!(rt; (sum.mass, sum.terms.len()), (15, 1));
 }
 
 #[test]
