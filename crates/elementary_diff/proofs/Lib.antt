@@ -1,5 +1,7 @@
 pub mod Drawings
 pub mod Masses
+pub mod NodeWalks
 pub mod Repeats
 pub mod RootEdges
+pub mod Rooms
 pub mod SymmetryLaws

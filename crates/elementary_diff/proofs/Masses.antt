@@ -100,7 +100,7 @@ weight-term d n t =
     turned : (c k p : ℕ) → k * (c * p) ≡ c * (p * k)
     turned c k p = grind arith
 
-weight-total : (d n : ℕ) (ts : List PlainTerm) → weight n (total_derivative d ts) ≡ weight (suc n) ts
+pub weight-total : (d n : ℕ) (ts : List PlainTerm) → weight n (total_derivative d ts) ≡ weight (suc n) ts
 weight-total d n ts =
     let made : PlainTerm → List PlainTerm = λ t. map (λ m. record { coefficient = t.coefficient; symbols = m }) (further d t.symbols) in
     let one : PlainTerm → ℕ = λ u. unsigned_abs u.coefficient * variable_count u.symbols ^ n in
@@ -118,7 +118,7 @@ weight-totals d n (m ∷ ms) ts =
     let all : sum (m ∷ ms) ≡ 0 + m + sum ms = sum_by_from (λ x. x) (0 + m) ms in
     weight-totals (suc d) n ms (repeated m (total_derivative d) ts) ∙ weight-repeated m d (sum ms + n) ts ∙ ap (λ (x : ℕ). weight x ts) (omega (arith, all))
 
-weight-none : (ts : List PlainTerm) → weight 0 ts ≡ size_of ts
+pub weight-none : (ts : List PlainTerm) → weight 0 ts ≡ size_of ts
 weight-none ts = total_ext (λ t. unsigned_abs t.coefficient * variable_count t.symbols ^ 0) (λ t. unsigned_abs t.coefficient) ts (λ t. ap (λ (x : ℕ). unsigned_abs t.coefficient * x) (pow-zero (variable_count t.symbols)) ∙ omega arith)
 
 pub root_factor-size : (ty : Types) (side : List PlainTerm) (t : Plain) → size_of (root_factor ty side t) ≡ root_mass ty side t

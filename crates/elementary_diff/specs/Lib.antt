@@ -1,4 +1,5 @@
 pub mod Differentials
 pub mod Masses
 pub mod Orders
+pub mod Room
 pub mod Symmetry

@@ -2,7 +2,10 @@
 #![tactic(auto)]
 
 mod ordering;
+mod root_edges;
+mod sides;
 mod symmetry_factors;
+mod weights;
 
 pub use ordering::ordering_law;
 pub use symmetry_factors::{symmetry, symmetry_law};
