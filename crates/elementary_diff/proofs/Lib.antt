@@ -5,3 +5,4 @@ pub mod Repeats
 pub mod RootEdges
 pub mod Rooms
 pub mod SymmetryLaws
+pub mod TotalLaws

@@ -140,7 +140,7 @@ above-size ty sides (graft k p c t) =
     let root = root_factor ty (sides k) c in
     let above = above_factor ty sides c in
     let whole : size_of (products root above) ≡ root_mass ty (sides k) c * above_mass ty sides c =
-      size_of-products root above ∙ ap (λ (x : ℕ). x * size_of above) (root_factor-size ty (sides k) c) ∙ ap (λ (x : ℕ). root_mass ty (sides k) c * x) (above-size ty sides c) in
+    size_of-products root above ∙ ap (λ (x : ℕ). x * size_of above) (root_factor-size ty (sides k) c) ∙ ap (λ (x : ℕ). root_mass ty (sides k) c * x) (above-size ty sides c) in
     let first = kernel_factor-size (kind_of ty k) (products root above) (root_mass ty (sides k) c * above_mass ty sides c) whole in
     size_of-products (kernel_factor (kind_of ty k) (products root above)) (above_factor ty sides t)
     ∙ ap (λ (x : ℕ). x * size_of (above_factor ty sides t)) first
@@ -156,7 +156,7 @@ derivative-absolute : (s : PlainSymbol) (ts : List PlainTerm) → derivatives s 
 derivative-absolute s [] = refl
 derivative-absolute s (t ∷ ts) =
     let here : pos (power_of s t.symbols) *ℤ pos (unsigned_abs t.coefficient) ≡ pos (unsigned_abs (pos (power_of s t.symbols) *ℤ t.coefficient)) =
-      positive (power_of s t.symbols) (unsigned_abs t.coefficient) ∙ ap pos (sym (unsigned_abs-mul (pos (power_of s t.symbols)) t.coefficient)) in
+    positive (power_of s t.symbols) (unsigned_abs t.coefficient) ∙ ap pos (sym (unsigned_abs-mul (pos (power_of s t.symbols)) t.coefficient)) in
     let rest = derivative-absolute s ts in
     ap (λ (z : ℤ). record { coefficient = z; symbols = without s t.symbols } ∷ derivatives s (absolute_terms ts)) here
     ∙ ap (λ (us : List PlainTerm). record { coefficient = pos (unsigned_abs (pos (power_of s t.symbols) *ℤ t.coefficient)); symbols = without s t.symbols } ∷ us) rest

@@ -45,7 +45,7 @@ pub masses-whole : (ty : Types) (sides : Sides) (k : ℕ) (c : Content) (i : ℕ
     saturated (p * above_mass ty sides (tree_over c.trees [] es)) ≡ saturated (mass_of ty sides k (tree_at c i))
 masses-whole ty sides k c i n es p h e =
     let above : above_mass ty sides (tree_over c.trees [] es) ≡ above_mass ty sides (tree_at c i) =
-      above-root ty sides [] n (map (edge_over c.trees) es) ∙ ap (above_mass ty sides) (sym (at_holds c i (tree_over c.trees n es) h)) in
+    above-root ty sides [] n (map (edge_over c.trees) es) ∙ ap (above_mass ty sides) (sym (at_holds c i (tree_over c.trees n es) h)) in
     rw (e, above) (saturated_mul_left (root_mass ty (sides k) (tree_at c i)) (above_mass ty sides (tree_at c i)))
 
 kernel_is : (o : Option Kind) (n : ℕ) → kernel_edge o ≡ 1 → kernel_mass o n ≡ n
@@ -65,6 +65,7 @@ times_step p q m r w e h =
   where
     turned : (p m r : ℕ) → p * m * r ≡ p * r * m
     turned p m r = grind arith
+
     back : (p m r : ℕ) → p * r * m ≡ p * (m * r)
     back p m r = grind arith
 

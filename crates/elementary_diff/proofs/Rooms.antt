@@ -108,6 +108,7 @@ falls p c l k h e f =
   where
     turned : (c k x : ℕ) → c * (suc k * x) ≡ suc k * (c * x)
     turned c k x = grind arith
+
     grouped : (p c x : ℕ) → p * (c * x) ≡ p * c * x
     grouped p c x = grind arith
 
@@ -119,6 +120,7 @@ derivative-room s t h = record {
   where
     size : (p : ℕ) → unsigned_abs (pos p *ℤ t.coefficient) ≡ p * unsigned_abs t.coefficient
     size p = unsigned_abs-mul (pos p) t.coefficient
+
     at : (p : ℕ) → power_of s t.symbols ≡ p → unsigned_abs (pos p *ℤ t.coefficient) * factorial (length (without s t.symbols)) < overflow
     at zero e = rw (size 0) (omega arith)
     at (suc p) e =

@@ -5,6 +5,7 @@ mod ordering;
 mod root_edges;
 mod sides;
 mod symmetry_factors;
+mod total_derivatives;
 mod weights;
 
 pub use ordering::ordering_law;

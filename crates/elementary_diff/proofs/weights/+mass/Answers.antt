@@ -34,8 +34,8 @@ loop-e-preserved t c =
                 c.loop-e-test.true (c.is_kernel.ensures ∙ ap (λ (b : Bool). cond b 1 0) w.if-is_kernel.true) w.in_ok-mass.ensures.value is c.loop-e.invariant.product;
           }
       | else-is_kernel w ↦ record {
-          within = omega (arith, w.product-is, c.loop-e.invariant.within);
-          product = rw w.product-is
-              (masses-other eq.types (right_terms eq) c.args.pool.now es c.loop-e.e-index c.loop-e.product whole c.loop-e-test.true (c.is_kernel.ensures ∙ ap (λ (b : Bool). cond b 1 0) w.if-is_kernel.false) c.loop-e.invariant.product);
-        }
+        within = omega (arith, w.product-is, c.loop-e.invariant.within);
+        product = rw w.product-is
+            (masses-other eq.types (right_terms eq) c.args.pool.now es c.loop-e.e-index c.loop-e.product whole c.loop-e-test.true (c.is_kernel.ensures ∙ ap (λ (b : Bool). cond b 1 0) w.if-is_kernel.false) c.loop-e.invariant.product);
+      }
     ]
