@@ -1,4 +1,6 @@
 pub mod Drawings
+pub mod FactorWalks
+pub mod FurtherSteps
 pub mod Masses
 pub mod NodeWalks
 pub mod Repeats

@@ -1,5 +1,5 @@
 -- Walks over the edges of a node of a pool: what the edges that are left make of terms and of masses.
-use Rattle.std.proofs.Common.{◌≡◌, ℕ, zero, suc, ◌+◌, ◌*◌, ◌^◌, ◌<◌, ◌≤◌, true, false, Bool, cond, List, [], ◌∷◌, drop, length, map, sum, get_or, refl, sym, ap, ◌∙◌, arith, Some, None, Option}
+use Rattle.std.proofs.Common.{◌≡◌, ℕ, ◌+◌, ◌*◌, ◌^◌, ◌<◌, ◌≤◌, List, [], ◌∷◌, drop, length, map, sum, get_or, refl, sym, ap, ◌∙◌, arith, Some, None, Option}
 use Rattle.exact_sums.specs.Saturating.{overflow, saturated, saturating_times}
 use Rattle.exact_sums.proofs.SaturatingLaws.{saturated_mul_left, saturated_mul_right}
 use Rattle.std.proofs.Math.Nat.{pow-suc}
@@ -48,12 +48,12 @@ masses-whole ty sides k c i n es p h e =
     above-root ty sides [] n (map (edge_over c.trees) es) ∙ ap (above_mass ty sides) (sym (at_holds c i (tree_over c.trees n es) h)) in
     rw (e, above) (saturated_mul_left (root_mass ty (sides k) (tree_at c i)) (above_mass ty sides (tree_at c i)))
 
-kernel_is : (o : Option Kind) (n : ℕ) → kernel_edge o ≡ 1 → kernel_mass o n ≡ n
+pub kernel_is : (o : Option Kind) (n : ℕ) → kernel_edge o ≡ 1 → kernel_mass o n ≡ n
 kernel_is None n h = absurd cc
 kernel_is (Some Noise) n h = absurd cc
 kernel_is (Some Kernel) n h = refl
 
-other_is : (o : Option Kind) (n : ℕ) → kernel_edge o ≡ 0 → kernel_mass o n ≡ 1
+pub other_is : (o : Option Kind) (n : ℕ) → kernel_edge o ≡ 0 → kernel_mass o n ≡ 1
 other_is None n h = refl
 other_is (Some Noise) n h = refl
 other_is (Some Kernel) n h = absurd cc

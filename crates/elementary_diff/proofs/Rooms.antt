@@ -1,6 +1,6 @@
 -- Room for derivatives: what the terms of a right side have of it, and that derivatives keep it.
-use Rattle.std.proofs.Common.{◌≡◌, ℕ, zero, suc, ◌+◌, ◌*◌, ◌<◌, ◌≤◌, ◌==◌, pos, ◌*ℤ◌, unsigned_abs, true, false, Bool, cond, List, [], ◌∷◌, ◌++◌, length, map, get_or, refl, sym, ap, ◌∙◌, arith, Some, None, Option}
-use Rattle.std.specs.List.{All, AllByRecursion}
+use Rattle.std.proofs.Common.{◌≡◌, ℕ, zero, suc, ◌+◌, ◌*◌, ◌<◌, ◌≤◌, ◌==◌, pos, ◌*ℤ◌, unsigned_abs, true, false, Bool, cond, List, [], ◌∷◌, length, map, get_or, refl, sym, ap, ◌∙◌, arith, Some, None, Option}
+use Rattle.std.specs.List.{All}
 use Rattle.std.specs.Ordering.{is_gt}
 use Rattle.std.proofs.lemmas.Nat.{mul-le}
 use Rattle.std.proofs.lemmas.Int.{unsigned_abs-mul}
@@ -20,7 +20,7 @@ use Rattle.equation_file.specs.declared.Unknown.{Unknown}
 use Rattle.equation_file.specs.Accepted.{IsRightTerm, IsUnknown, IsEquation}
 use Rattle.equation_file.specs.EdgeTypes.{EdgeType}
 use Rattle.plain_trees.specs.Canon.{IsCanonical}
-use Rattle.plain_trees.specs.Plain.{Plain, bare, IsSmall}
+use Rattle.plain_trees.specs.Plain.{bare, IsSmall}
 use Rattle.symbol_polys.specs.Symbols.{PlainSymbol, parameter, variable, noise, symbol_order, HasBoundedTree, IsMonomial}
 use Rattle.symbol_polys.specs.Polynomials.{PlainTerm}
 use Rattle.symbol_polys.specs.Products.{with_symbol, monomial_product}

@@ -14,7 +14,7 @@ use Rattle.symbol_polys.specs.declared.Symbol.{Symbol}
 use Rattle.symbol_polys.specs.declared.Term.{Term}
 use Rattle.symbol_polys.proofs.SymbolLaws.{symbol_order_total}
 use Rattle.symbol_polys.proofs.AddLaws.{coefficient_of-append}
-use Rattle.symbol_polys.proofs.JoinLaws.{plus, at, at-plus, both_here}
+use Rattle.symbol_polys.proofs.JoinLaws.{both_here}
 use Rattle.symbol_polys.proofs.LinearLaws.{total_of, IsLinear, none_at, same_totals}
 use Rattle.symbol_polys.proofs.MonomialLaws.{all-monomial_product}
 use Rattle.elementary_diff.specs.Differentials.{one_more, further_symbol, further, total_derivative, repeated, total_derivatives}
@@ -211,3 +211,6 @@ total-done d ts i done h k = sym (append-nil done) ∙ ap (λ (us : List Term). 
 pub terms-append : (ts us : List Term) → terms_of (ts ++ us) ≡ terms_of ts ++ terms_of us
 terms-append [] us = refl
 terms-append (t ∷ ts) us = ap (λ (xs : List PlainTerm). term_of t ∷ xs) (terms-append ts us)
+
+pub total-monomials : (b d : ℕ) (ts us : List PlainTerm) → us ≡ total_derivative d ts → AreLow b ts → AllByRecursion IsMonomial (monomials us)
+total-monomials b d ts us e h = are_monomials (suc b) us (subst (λ (vs : List PlainTerm). AreLow (suc b) vs) (sym e) (low-total b d ts h))

@@ -2,7 +2,7 @@
 -- a symbol away.
 --   HasRoom t == the symbols of t are those of a monomial, and its absolute coefficient times the factorial of their number is in range
 --   HaveRoom ts == all terms do
-use Rattle.std.specs.Prelude.{ℕ, ◌<◌, ◌*◌, unsigned_abs, List, length}
+use Rattle.std.specs.Prelude.{◌<◌, ◌*◌, unsigned_abs, List, length}
 use Rattle.std.specs.List.{AllByRecursion}
 use Rattle.exact_sums.specs.Saturating.{overflow}
 use Rattle.multiplicities.specs.Factorial.{factorial}

@@ -1,8 +1,9 @@
 // Total derivatives of terms.
-ghost use Rattle.std.specs.Prelude.{◌≡◌, ◌<◌, ◌≤◌, ◌++◌, ◌∷◌, [], map, IfOk, OnOk, IsOkUnless};
-ghost use Rattle.symbol_polys.specs.Polynomials.{monomials};
+ghost use Rattle.std.specs.Prelude.{◌≡◌, ◌<◌, ◌++◌, map, pos, IfOk, OnOk, IsOkUnless};
+ghost use Rattle.symbol_polys.specs.Polynomials.{monomials, size_of, HaveSameCoefficients, IsPolynomial};
 ghost use Rattle.symbol_polys.specs.Symbols.{HasBoundedTree, IsMonomial};
 ghost use Rattle.std.specs.List.{AllByRecursion};
+ghost use Rattle.exact_sums.specs.Saturating.{overflow};
 ghost use Rattle.symbol_polys.specs.View.{symbol_of, term_of, terms_of};
 ghost use Rattle.elementary_diff.specs.Differentials.{one_more, further_symbol, further, total_derivative};
 ghost use Rattle.elementary_diff.specs.Low.{most_entry, AreAtMost, IsLow, IsLowMonomial, AreLow};
@@ -10,8 +11,9 @@ ghost use Rattle.elementary_diff.specs.Places.{with_coefficient, own_places, tim
 
 use crate::sides::keep;
 use degree_numbers::Multi;
+use sqlite_items::Items;
 use std::alloc::{AllocError, Global};
-use symbol_polys::{PolyError, Symbol, Term, copy_symbol, with_symbol};
+use symbol_polys::{Poly, PolyError, Symbol, Term, copy_symbol, sum_of_terms, with_symbol};
 
 // The multiindex with one more in a direction.
 fn one_more(direction: usize, m: &Multi) -> Multi
@@ -128,4 +130,22 @@ pub(crate) fn total_derivative(
         )?;
     }
     Ok(derived)
+}
+
+/// The same, where each monomial stands once.
+pub(crate) fn collected_derivative(
+    alloc: Global,
+    direction: usize,
+    terms: &[Term],
+) -> Result<Items<Term>, PolyError>
+    requires direction { direction < 5 }
+    requires low { AreLow most_entry (terms_of terms.now) }
+    requires fits { size_of (total_derivative direction (terms_of terms.now)) < overflow }
+    ensures poly { IfOk result (λ ts. IsPolynomial (pos (size_of (total_derivative direction (terms_of terms.now)))) (terms_of ts)) }
+    ensures coefficients { IfOk result (λ ts. HaveSameCoefficients (terms_of ts) (total_derivative direction (terms_of terms.now))) }
+    ensures memory { IsOkUnless result PolyError.Memory }
+{
+    let derived = total_derivative(alloc, direction, terms)?;
+    let Poly { terms, mass: _ } = sum_of_terms(alloc, derived.as_slice())?;
+    Ok(terms)
 }

@@ -3,7 +3,7 @@ use Rattle.tree_pool.specs.Content.{tree_at}
 use Rattle.tree_pool.proofs.Walks.{no_edge, below_at}
 use Rattle.elementary_diff.specs.Differentials.{right_terms}
 use Rattle.elementary_diff.specs.Masses.{mass_of}
-use Rattle.elementary_diff.proofs.NodeWalks.{masses-whole, masses-kernel, masses-other, masses-end, capped}
+use Rattle.elementary_diff.proofs.NodeWalks.{masses-whole, masses-kernel, masses-other, capped}
 use Rattle.elementary_diff.proofs.weights.+mass.Goals as goal
 use Rattle.elementary_diff.proofs.weights.+mass.Goals.{then-is_kernel+in_ok-mass, else-is_kernel}
 
