@@ -35,8 +35,17 @@ exchanged : (at above u v others : List EdgeLabel) → IsInLabelOrder others →
 exchanged at above u v others h =
     same_labels (join u (join v (join at (join above others)))) (join at (join above (join u (join v others))))
     (join-sorted u _ (join-sorted v _ (join-sorted at _ (join-sorted above others h)))) (join-sorted at _ (join-sorted above _ (join-sorted u _ (join-sorted v others h))))
-    (λ z. omega (arith, count-join z u (join v (join at (join above others))), count-join z v (join at (join above others)), count-join z at (join above others), count-join z above others,
-      count-join z at (join above (join u (join v others))), count-join z above (join u (join v others)), count-join z u (join v others), count-join z v others))
+    (λ z. omega (
+      arith,
+      count-join z u (join v (join at (join above others))),
+      count-join z v (join at (join above others)),
+      count-join z at (join above others),
+      count-join z above others,
+      count-join z at (join above (join u (join v others))),
+      count-join z above (join u (join v others)),
+      count-join z u (join v others),
+      count-join z v others,
+    ))
 
 additions-with-at : (ty : Types) (rule : Rule) (e f : Planted) (t : Plain) (at above rs : List EdgeLabel) (a : Bool) → is_gt (planted_order e f) ≡ a → IsAddition ty rule e.kind e.child at → AreAdditionsAbove ty rule e.child above →
     AreAdditionsAbove ty rule (over f t) rs → ((others : List EdgeLabel) → AreAdditionsAbove ty rule t others → AreAdditionsAbove ty rule (with_edge e t) (join at (join above others))) →
@@ -44,7 +53,7 @@ additions-with-at : (ty : Types) (rule : Rule) (e f : Planted) (t : Plain) (at a
 additions-with-at ty rule e f t at above rs true gt add up h ih =
     let rest = ih h.2 h.5 in
     let same : join at (join above rs) ≡ join h.0 (join h.1 (join at (join above h.2))) =
-      ap (λ (es : List EdgeLabel). join at (join above es)) h.6 ∙ sym (exchanged at above h.0 h.1 h.2 (additions-sorted ty rule t h.2 h.5)) in
+    ap (λ (es : List EdgeLabel). join at (join above es)) h.6 ∙ sym (exchanged at above h.0 h.1 h.2 (additions-sorted ty rule t h.2 h.5)) in
     rw gt (h.0, h.1, join at (join above h.2), h.3, h.4, rest, same)
 additions-with-at ty rule e f t at above rs false gt add up h ih = rw gt (at, above, rs, add, up, h, refl)
 

@@ -154,10 +154,11 @@ module _ (eq : Equation) (rule : Rule) (equation : IsEquation eq) (is_rule : IsR
   contracted-conforms touched (edge false s k p c r) multis types conforms f extracted =
       let tests = both (fits (leaves c) c) (fits touched r) (both (is_zero s || (touched && true)) (fits (leaves c) c && fits touched r) f).1 in
       let own = cond (leaves c) (root_component c ∷ components_above c) (components_above c) in
-      let here = all-left own (components_above r) extracted in
-      (outside-allowed k c (leaves c) refl multis.1 types.1 conforms.0 conforms.1 tests.0 here,
+      let here = all-left own (components_above r) extracted in (
+        outside-allowed k c (leaves c) refl multis.1 types.1 conforms.0 conforms.1 tests.0 here,
         contracted-conforms (leaves c) c multis.1 types.1 conforms.1 tests.0 (all-above (leaves c) (root_component c) (components_above c) here),
-        contracted-conforms touched r multis.2 types.2 conforms.2 tests.1 (all-right own (components_above r) extracted))
+        contracted-conforms touched r multis.2 types.2 conforms.2 tests.1 (all-right own (components_above r) extracted),
+      )
 
   root-at : (m : CutTree) (b : Bool) → leaves m ≡ b → HasMultis eq.types.dims m → HasTypes eq.types (tree_of m) → IsConforming eq.types rule (tree_of m) → fits b m ≡ true →
       AllByRecursion Extracted (cond b (root_component m ∷ components_above m) (components_above m)) → IsAllowedAtRoot rule (contracted m)
@@ -176,7 +177,7 @@ module _ (eq : Equation) (rule : Rule) (equation : IsEquation eq) (is_rule : IsR
   quotient-conforms m multis types h f extracted = record {
     root = root-canon_allowed rule (contracted m) (root-at m (leaves m) refl multis types h f extracted);
     above = conforms-canon eq.types rule (contracted m)
-      (contracted-conforms (leaves m) m multis types h.above f (all-above (leaves m) (root_component m) (components_above m) extracted));
+        (contracted-conforms (leaves m) m multis types h.above f (all-above (leaves m) (root_component m) (components_above m) extracted));
   }
 
   -- the components are parts

@@ -52,9 +52,10 @@ closed-cut eq rule m c equation is_rule fixed read types conforms cutting admiss
     let quotient_is : quotient c ≡ contracted cut = ap quotient read.is ∙ quotient_same cut in
     let fit : fits (leaves cut) cut ≡ true = sym (is_cutting_same false cut) ∙ sym (ap (is_cutting false) read.is) ∙ cutting in
     let extracted = subst (AllByRecursion (λ t. is_extracted eq.types t ≡ true)) components_are (all-passing (is_extracted eq.types) (components false c) admissible) in
-    let parts = components-are_parts eq rule equation is_rule fixed cut read.multis own_types own_conforms in
-    (λ t h. each-listed eq rule (cut_components false cut) parts extracted t (subst (IsIn t) components_are h),
-      subst (λ (q : Plain). IsConforming eq.types rule (canon q)) (sym quotient_is) (quotient-conforms eq rule equation is_rule fixed cut read.multis own_types own_conforms fit extracted))
+    let parts = components-are_parts eq rule equation is_rule fixed cut read.multis own_types own_conforms in (
+      λ t h. each-listed eq rule (cut_components false cut) parts extracted t (subst (IsIn t) components_are h),
+      subst (λ (q : Plain). IsConforming eq.types rule (canon q)) (sym quotient_is) (quotient-conforms eq rule equation is_rule fixed cut read.multis own_types own_conforms fit extracted),
+    )
 
 read-as : (dims : ℕ) (t : Plain) (c : Cutting) (h : IsReadDown dims t c) → IsReadDown dims (tree_of h.cut) c
 read-as dims t c h = record { cut = h.cut; tree = refl; multis = h.multis; is = h.is }

@@ -86,9 +86,9 @@ additions_above ty rule (edge true s k p c r) h =
     let beside = additions_above ty rule r h.2 in
     let all : List EdgeLabel = join (outside_raised c) (join up.0 beside.0) in
     let same : node_type_of (joined (contracted c) (contracted r)) ≡ join (outside_raised r) all =
-      node_type-joined (contracted c) (contracted r) ∙ ap (λ (es : List EdgeLabel). join es (node_type_of (contracted r))) up.2
-      ∙ ap (λ (es : List EdgeLabel). join (join (outside_raised c) up.0) es) beside.2
-      ∙ four (outside_raised c) up.0 (outside_raised r) beside.0 (additions-sorted ty rule (root_component r) beside.0 beside.1) (additions-sorted ty rule (root_component c) up.0 up.1) in
+    node_type-joined (contracted c) (contracted r) ∙ ap (λ (es : List EdgeLabel). join es (node_type_of (contracted r))) up.2
+    ∙ ap (λ (es : List EdgeLabel). join (join (outside_raised c) up.0) es) beside.2
+    ∙ four (outside_raised c) up.0 (outside_raised r) beside.0 (additions-sorted ty rule (root_component r) beside.0 beside.1) (additions-sorted ty rule (root_component c) up.0 up.1) in
     (all, (outside_raised c, up.0, beside.0, component-addition ty rule k c h.0, up.1, beside.1, refl), same)
 additions_above ty rule (edge false s k p c r) h =
     let beside = additions_above ty rule r h.2 in

@@ -20,7 +20,7 @@ raised-more shift n [] (r ∷ rs) h = absurd h
 raised-more shift n (m ∷ ms) [] h = absurd h
 raised-more shift n (m ∷ ms) (r ∷ rs) h =
     let parted : plus_of shift n ≡ plus_of h.0 (plus_of shift h.1) =
-      ap (plus_of shift) h.2 ∙ sym (plus_assoc shift h.0 h.1) ∙ ap (λ x. plus_of x h.1) (plus_comm shift h.0) ∙ plus_assoc h.0 shift h.1 in
+    ap (plus_of shift) h.2 ∙ sym (plus_assoc shift h.0 h.1) ∙ ap (λ x. plus_of x h.1) (plus_comm shift h.0) ∙ plus_assoc h.0 shift h.1 in
     (h.0, plus_of shift h.1, parted, h.3, h.4, raised-more shift h.1 ms rs h.5)
 
 pub raised-part : (n : List ℕ) (ms rs ds : List EdgeLabel) → IsRaised n ms rs → IsSubMultiset ds rs → (cs : List EdgeLabel) × IsSubMultiset cs ms × IsRaised n cs ds

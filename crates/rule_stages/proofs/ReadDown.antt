@@ -92,9 +92,13 @@ from_choices_append f [] ys zs h = ([], zs, inl refl, h, refl)
 from_choices_append {X} {Y} f (x ∷ xs) ys zs h =
     let first = from_flat_map (λ (y : Y). map (λ (l : List Y). y ∷ l) (choices f (xs ++ ys))) zs (f x) h in
     let rest = from_map (λ (l : List Y). first.0 ∷ l) zs (choices f (xs ++ ys)) first.2 in
-    let parts = from_choices_append f xs ys rest.0 rest.1 in
-    (first.0 ∷ parts.0, parts.1, in_flat_map (λ (y : Y). map (λ (l : List Y). y ∷ l) (choices f xs)) (first.0 ∷ parts.0) first.0 (f x) first.1 (in_map (λ (l : List Y). first.0 ∷ l) parts.0 (choices f xs) parts.2),
-      parts.3, ap (λ (l : List Y). first.0 ∷ l) parts.4 ∙ rest.2)
+    let parts = from_choices_append f xs ys rest.0 rest.1 in (
+      first.0 ∷ parts.0,
+      parts.1,
+      in_flat_map (λ (y : Y). map (λ (l : List Y). y ∷ l) (choices f xs)) (first.0 ∷ parts.0) first.0 (f x) first.1 (in_map (λ (l : List Y). first.0 ∷ l) parts.0 (choices f xs) parts.2),
+      parts.3,
+      ap (λ (l : List Y). first.0 ∷ l) parts.4 ∙ rest.2,
+    )
 
 -- the ways to mark an edge
 record IsMark (w : List ℕ) (e : Link) (y : Marked) : Type 0 where
@@ -122,15 +126,17 @@ record IsReading (dims : ℕ) (t : Plain) (r next : ℕ) (a : List ℕ) (es : Li
 read_down : (ty : Types) (k : ℕ) (t : Plain) (r next : ℕ) (a : List ℕ) (es : List Marked) → HasTypes ty t → IsIn a (below (root_of t)) → IsIn es (choices (marks (each_direction ty.dims k)) (links_from r next t)) →
     (m : CutTree) × IsReading ty.dims t r next a es m
 read_down ty k (bare n) r next a es types ha hes =
-    let part = in_below n a ha in
-    (node a (minus_of n a), record {
-      tree = ap bare (plus-minus a n part);
-      multis = (multi-below ty.dims a n part types, multi-below ty.dims (minus_of n a) n (minus-below a n part) types);
-      taken = refl;
-      left = refl;
-      rows = elim hes [ inl e ↦ e | inr none ↦ absurd none ];
-      size = refl;
-    })
+    let part = in_below n a ha in (
+      node a (minus_of n a),
+      record {
+        tree = ap bare (plus-minus a n part);
+        multis = (multi-below ty.dims a n part types, multi-below ty.dims (minus_of n a) n (minus-below a n part) types);
+        taken = refl;
+        left = refl;
+        rows = elim hes [ inl e ↦ e | inr none ↦ absurd none ];
+        size = refl;
+      },
+    )
 read_down ty k (graft l p c t) r next a es types ha hes =
     let w = each_direction ty.dims k in
     let link : Link = record { number = next; parent = r; kind = l; p = p; n = root_of c } in
@@ -143,15 +149,17 @@ read_down ty k (graft l p c t) r next a es types ha hes =
     let up = read_down ty k c next (1 + next) first.0.taken parts.0 types.1 mark.part parts.2 in
     let side = read_down ty k t r (1 + next + edge_count_of c) a parts.1 types.2 ha parts.3 in
     let same_up = up.1 in
-    let same_side = side.1 in
-    (edge first.0.inside first.0.shift l p up.0 side.0, record {
-      tree = ap (λ (u : Plain). graft l p u (tree_of side.0)) same_up.tree ∙ ap (graft l p c) same_side.tree;
-      multis = (multi-shift ty.dims k p first.0.shift types.0.decoration mark.shifted, same_up.multis, same_side.multis);
-      taken = same_side.taken;
-      left = same_side.left;
-      rows = whole r next l p first.0 (root_of c) up.0 side.0 parts.0 parts.1 rest.0 es (edge_count_of c) mark.is same_up.taken same_up.left same_up.rows same_up.size same_side.rows parts.4 rest.2;
-      size = omega (arith, same_up.size, same_side.size);
-    })
+    let same_side = side.1 in (
+      edge first.0.inside first.0.shift l p up.0 side.0,
+      record {
+        tree = ap (λ (u : Plain). graft l p u (tree_of side.0)) same_up.tree ∙ ap (graft l p c) same_side.tree;
+        multis = (multi-shift ty.dims k p first.0.shift types.0.decoration mark.shifted, same_up.multis, same_side.multis);
+        taken = same_side.taken;
+        left = same_side.left;
+        rows = whole r next l p first.0 (root_of c) up.0 side.0 parts.0 parts.1 rest.0 es (edge_count_of c) mark.is same_up.taken same_up.left same_up.rows same_up.size same_side.rows parts.4 rest.2;
+        size = omega (arith, same_up.size, same_side.size);
+      },
+    )
   where
     whole : (r next l : ℕ) (p : List ℕ) (y : Marked) (n : List ℕ) (u v : CutTree) (us vs zs es : List Marked) (count : ℕ) →
         y ≡ record { number = next; parent = r; kind = l; p = p; inside = y.inside; shift = y.shift; taken = y.taken; left = minus_of n y.taken } →
@@ -160,8 +168,8 @@ read_down ty k (graft l p c t) r next a es types ha hes =
     whole r next l p y n u v us vs zs es count is taken left rows size beside both all =
         let later : rows_from r (1 + next + cut_size u) v ≡ vs = ap (λ (i : ℕ). rows_from r (1 + next + i) v) size ∙ beside in
         let row : record { number = next; parent = r; kind = l; p = p; inside = y.inside; shift = y.shift; taken = taken_of u; left = left_of u } ≡ y =
-          ap (λ (z : List ℕ). record { number = next; parent = r; kind = l; p = p; inside = y.inside; shift = y.shift; taken = z; left = left_of u }) taken
-          ∙ ap (λ (z : List ℕ). record { number = next; parent = r; kind = l; p = p; inside = y.inside; shift = y.shift; taken = y.taken; left = z }) left ∙ sym is in
+        ap (λ (z : List ℕ). record { number = next; parent = r; kind = l; p = p; inside = y.inside; shift = y.shift; taken = z; left = left_of u }) taken
+        ∙ ap (λ (z : List ℕ). record { number = next; parent = r; kind = l; p = p; inside = y.inside; shift = y.shift; taken = y.taken; left = z }) left ∙ sym is in
         ap (λ (z : Marked). z ∷ (rows_from next (1 + next) u ++ rows_from r (1 + next + cut_size u) v)) row
         ∙ ap (λ (z : List Marked). y ∷ (z ++ rows_from r (1 + next + cut_size u) v)) rows ∙ ap (λ (z : List Marked). y ∷ (us ++ z)) later ∙ ap (λ (z : List Marked). y ∷ z) both ∙ all
 
@@ -180,7 +188,7 @@ marking_read_down ty k t c types h =
     let m = read_down ty k t 0 1 a.0 es.0 types a.1 es.1 in
     let same = m.1 in
     let is : made a.0 es.0 ≡ flat_of m.0 =
-      sym (ap (λ (z : List ℕ). record { taken = z; left = left_of m.0; edges = rows_from 0 1 m.0 }) same.taken
-        ∙ ap (λ (z : List ℕ). record { taken = a.0; left = z; edges = rows_from 0 1 m.0 }) same.left
-        ∙ ap (λ (z : List Marked). record { taken = a.0; left = minus_of (root_of t) a.0; edges = z }) same.rows) in
+    sym (ap (λ (z : List ℕ). record { taken = z; left = left_of m.0; edges = rows_from 0 1 m.0 }) same.taken
+    ∙ ap (λ (z : List ℕ). record { taken = a.0; left = z; edges = rows_from 0 1 m.0 }) same.left
+    ∙ ap (λ (z : List Marked). record { taken = a.0; left = minus_of (root_of t) a.0; edges = z }) same.rows) in
     record { cut = m.0; tree = same.tree; multis = same.multis; is = sym es.2 ∙ is }

@@ -78,8 +78,10 @@ noise-regularity eq k h = go (slice_get eq.types.list k) refl h
     by_kind : (e : TypeEntry) (kind : Kind) → e.kind ≡ kind → kind ≡ Noise → regularity_at (Some e) (kernel_regularity eq.unknowns k) ≡ e.degree.a
     by_kind e Noise q n = rw q refl
     by_kind e Kernel q n = absurd cc
+
     some : (o : Option TypeEntry) (e : TypeEntry) → o ≡ Some e → kind_of eq.types k ≡ Some Noise → slice_get eq.types.list k ≡ o → regularity_of eq k ≡ (type_degree eq.types k).a
     some o e q n at = let there : slice_get eq.types.list k ≡ Some e = at ∙ q in rw there (by_kind e e.kind refl (let m : Some e.kind ≡ Some Noise = sym (rw there refl) ∙ n in cc))
+
     go : (o : Option TypeEntry) → slice_get eq.types.list k ≡ o → kind_of eq.types k ≡ Some Noise → regularity_of eq k ≡ (type_degree eq.types k).a
     go None at n = absurd (let m : None ≡ Some Noise = sym (rw at refl) ∙ n in cc)
     go (Some e) at n = some (Some e) e refl n at
@@ -124,7 +126,7 @@ above-regularity eq rule g (graft k p c t) rs gap low h =
     let rest = above-regularity eq rule g t h.2 gap low h.5 in
     let put = put-regularity eq (k, p) (node_type_of t) in
     let sum : labels_regularity eq rs ≡ labels_regularity eq h.0 +ℤ (labels_regularity eq h.1 +ℤ labels_regularity eq h.2) =
-      ap (labels_regularity eq) h.6 ∙ join-regularity eq h.0 (join h.1 h.2) ∙ ap (λ z. labels_regularity eq h.0 +ℤ z) (join-regularity eq h.1 h.2) in
+    ap (labels_regularity eq) h.6 ∙ join-regularity eq h.0 (join h.1 h.2) ∙ ap (λ z. labels_regularity eq h.0 +ℤ z) (join-regularity eq h.1 h.2) in
     omega (arith, ints, one, rest, put, sum)
 
 kernel-in_row : (ty : Types) (rule : Rule) (k : ℕ) (es : List EdgeLabel) → kind_of ty k ≡ Some Kernel → IsInRule ty rule k es → IsInKernelRow rule k es

@@ -47,7 +47,7 @@ raised-put n shift rest m r (x ∷ xs) (y ∷ ys) parted kind label h =
     at : (b : Bool) → is_gt (edge_label_order m x) ≡ b → Raised (plus_of shift h.1) m xs r ys → Raised n m (x ∷ xs) r (y ∷ ys)
     at true q later =
         let moved : n ≡ plus_of h.0 (plus_of shift h.1) =
-          parted ∙ ap (plus_of shift) h.2 ∙ sym (plus_assoc shift h.0 h.1) ∙ ap (λ l. plus_of l h.1) (plus_comm shift h.0) ∙ plus_assoc h.0 shift h.1 in
+        parted ∙ ap (plus_of shift) h.2 ∙ sym (plus_assoc shift h.0 h.1) ∙ ap (λ l. plus_of l h.1) (plus_comm shift h.0) ∙ plus_assoc h.0 shift h.1 in
         let whole : IsRaised n (x ∷ put_label m xs) (y ∷ later.0) = (h.0, plus_of shift h.1, moved, h.3, h.4, later.1) in
         (y ∷ later.0, rw q whole, λ z. omega (arith, later.2 z))
     at false q later = raised-front n shift rest m r (x ∷ xs) (y ∷ ys) parted kind label h (rw q refl)
@@ -137,14 +137,14 @@ module _ (eq : Equation) (rule : Rule) (equation : IsEquation eq) (is_rule : IsR
       let es = node_type_of t in
       let n = from_kernel_row eq rule equation is_rule k (join ms es) h in
       let rest : without (labels n.0) es ≡ Some (join ms []) =
-        joins-without (labels n.0) es ms (node_labels_sorted eq rule equation is_rule k n.0 n.1) (node_type-sorted t) (sym n.2) in
+      joins-without (labels n.0) es ms (node_labels_sorted eq rule equation is_rule k n.0 n.1) (node_type-sorted t) (sym n.2) in
       let part = (without-rest (labels n.0) es (join ms []) rest).part in
       let own = root_index eq.types t types in
       let lengths = all-part (HasLength (root_of t)) (join ms []) (labels n.0) part (all-lengths eq.types.dims (root_of t) n.0.edges own.entries (node_directions eq rule equation is_rule k n.0 n.1)) in
       let sorted = raised-sorted (root_of t) ms rs raised in
       let there = raising-there (root_of t) (join ms []) sorted.0 lengths sorted.1 in
       let option : IsIn (join ms []) (options_in (nodes_of_kernel rule.rows k) es) =
-        in_flat_map (λ n. listed_option (without (labels n) es)) (join ms []) n.0 (nodes_of_kernel rule.rows k) n.1 (subst (λ o. IsIn (join ms []) (listed_option o)) (sym rest) (inl refl)) in
+      in_flat_map (λ n. listed_option (without (labels n) es)) (join ms []) n.0 (nodes_of_kernel rule.rows k) n.1 (subst (λ o. IsIn (join ms []) (listed_option o)) (sym rest) (inl refl)) in
       let chosen = subst (IsIn (join ms [])) (sym (options-kernel k es (kernel_of_row k (join ms es) h))) option in
       (sorted.0, in_flat_map (raisings (root_of t)) sorted.0 (join ms []) (options eq.types rule k es) chosen there, sorted.2)
 
@@ -175,7 +175,7 @@ module _ (eq : Equation) (rule : Rule) (equation : IsEquation eq) (is_rule : IsR
       let same : join at.0 (join h.1 h.2) ≡ rs = same-joins at.0 h.0 (join h.1 h.2) sorted at.2 ∙ sym h.6 in
       subst (λ l. IsIn l (additions_above eq.types rule (graft k p c t))) same
       (in_sums (additions_at eq.types rule k c) (sums (additions_above eq.types rule c) (additions_above eq.types rule t)) at.0 (join h.1 h.2) at.1
-        (in_sums (additions_above eq.types rule c) (additions_above eq.types rule t) h.1 h.2 up others))
+      (in_sums (additions_above eq.types rule c) (additions_above eq.types rule t) h.1 h.2 up others))
 
   pub additions-are : (k : ℕ) (t : Plain) (rs : List EdgeLabel) → IsAllowedAbove eq.types rule k t → ConformsAbove eq.types rule t → IsIn rs (all_additions eq.types rule k t) → AreAdditions eq.types rule k t rs
   additions-are k t rs allowed conforms h =

@@ -93,5 +93,5 @@ joins-without es fs ms h k q =
     let there = without-there es fs (part_of_labels fs es k h (λ z. omega (arith, here z))) in
     let rest = without-rest es fs there.0 there.1 in
     let same : there.0 ≡ join ms [] =
-      same_labels there.0 (join ms []) (part-sorted there.0 es rest.part h) (join-nil-sorted ms) (λ z. omega (arith, rest.counts z, here z, count-join z ms [])) in
+    same_labels there.0 (join ms []) (part-sorted there.0 es rest.part h) (join-nil-sorted ms) (λ z. omega (arith, rest.counts z, here z, count-join z ms [])) in
     there.1 ∙ ap Some same

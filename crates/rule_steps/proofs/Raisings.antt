@@ -126,11 +126,11 @@ raising-there n (m ∷ ms) (r ∷ rs) lengths h =
     let parts = subst (λ l. IsParted l h.0 h.1) (sym h.2) (parted h.0 h.1) in
     let shift = padded n h.0 in
     let label : plus_of m.1 shift ≡ r.1 =
-      sym (plus_assoc m.1 (zeros n) h.0) ∙ ap (λ l. plus_of l h.0) (zeros-more m.1 n lengths.0) ∙ sym h.4 in
+    sym (plus_assoc m.1 (zeros n) h.0) ∙ ap (λ l. plus_of l h.0) (zeros-more m.1 n lengths.0) ∙ sym h.4 in
     let rest : IsRaised (minus_of n shift) ms rs = subst (λ l. IsRaised l ms rs) (sym parts.left) (raised-more (zeros n) h.1 ms rs h.5) in
     let there = raising-there (minus_of n shift) ms rs (lengths-minus n shift ms parts.below lengths.1) rest in
     let same : (m.0, plus_of m.1 shift) ≡ r = ap (λ (k : ℕ). (k, plus_of m.1 shift)) (sym h.3) ∙ ap (λ (l : List ℕ). (r.0, l)) label in
     let whole : (m.0, plus_of m.1 shift) ∷ rs ≡ r ∷ rs = ap (λ (x : EdgeLabel). x ∷ rs) same in
     subst (λ l. IsIn l (raisings n (m ∷ ms))) whole
     (in_flat_map (λ s. map (λ more. (m.0, plus_of m.1 s) ∷ more) (raisings (minus_of n s) ms)) ((m.0, plus_of m.1 shift) ∷ rs) shift (below n) (in_below-back n shift parts.below)
-      (in_map (λ more. (m.0, plus_of m.1 shift) ∷ more) rs (raisings (minus_of n shift) ms) there))
+    (in_map (λ more. (m.0, plus_of m.1 shift) ∷ more) rs (raisings (minus_of n shift) ms) there))

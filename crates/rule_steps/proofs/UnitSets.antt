@@ -68,9 +68,12 @@ unfolding Moved
 in_order d qs ls rs same h =
     let q = bumped-member d qs rs h in
     let there = counts-member q.0 ls (let m = member-counts q.0 qs q.1 in let s = same q.0 in omega (arith, m, s)) in
-    let ss = member-bumped d q.0 ls there in
-    (ss.0, ss.1, same_labels (join ss.0 []) (join rs []) (join-nil-sorted ss.0) (join-nil-sorted rs)
-      (λ z. (let a = ss.2 z in let b = q.2 z in let s = same z in let c = count-join z ss.0 [] in let e = count-join z rs [] in omega (arith, a, b, s, c, e))))
+    let ss = member-bumped d q.0 ls there in (
+      ss.0,
+      ss.1,
+      same_labels (join ss.0 []) (join rs []) (join-nil-sorted ss.0) (join-nil-sorted rs)
+          (λ z. (let a = ss.2 z in let b = q.2 z in let s = same z in let c = count-join z ss.0 [] in let e = count-join z rs [] in omega (arith, a, b, s, c, e))),
+    )
 
 -- one more unit: what there was, and each of these raised by it
 pub raised_from-more : (d : ℕ) (n : List ℕ) (ms es fs : List EdgeLabel) → AllByRecursion (HasDirection d) ms → IsRaisedFrom n ms es → IsBumpedFrom d es fs → IsRaisedFrom (plus_of (unit_at d) n) ms fs

@@ -85,7 +85,7 @@ one_more d n (m ∷ ms) (q ∷ qs) (r ∷ rs) wide h b =
           let parted : plus_of (unit_at d) n ≡ plus_of (plus_of (unit_at d) h.0) h.1 = ap (plus_of (unit_at d)) h.2 ∙ sym (plus_assoc (unit_at d) h.0 h.1) in
           let long : d < length q.1 = (let w = wide.0 in let l = length-plus-left m.1 h.0 in let e = ap length h.4 in omega (arith, w, l, e)) in
           let label : r.1 ≡ plus_of m.1 (plus_of (unit_at d) h.0) =
-            ap (λ (e : EdgeLabel). e.1) here.0 ∙ sym (bump-unit d q.1 long) ∙ ap (plus_of (unit_at d)) h.4 ∙ swap (unit_at d) m.1 h.0 in
+          ap (λ (e : EdgeLabel). e.1) here.0 ∙ sym (bump-unit d q.1 long) ∙ ap (plus_of (unit_at d)) h.4 ∙ swap (unit_at d) m.1 h.0 in
           (plus_of (unit_at d) h.0, h.1, parted, ap (λ (e : EdgeLabel). e.0) here.0 ∙ h.3, label, subst (IsRaised h.1 ms) (sym here.1) h.5)
       | inr later ↦
           let parted : plus_of (unit_at d) n ≡ plus_of h.0 (plus_of (unit_at d) h.1) = ap (plus_of (unit_at d)) h.2 ∙ swap (unit_at d) h.0 h.1 in

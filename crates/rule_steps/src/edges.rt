@@ -32,7 +32,11 @@ fn put_edge(edges: &mut Vec<EdgeType>, e: EdgeType) -> Result<(), AllocError>
 }
 
 /// The edge types of two lists together, in order where the second is. Fails only for want of memory.
-pub(crate) fn joined(alloc: Global, front: &[EdgeType], edges: &[EdgeType]) -> Result<NodeType, AllocError>
+pub(crate) fn joined(
+    alloc: Global,
+    front: &[EdgeType],
+    edges: &[EdgeType],
+) -> Result<NodeType, AllocError>
     ensures { IfOk result (λ n. labels n ≡ join (map label front.now) (map label edges.now)) }
 {
     let mut all = Vec::from_slice(alloc, edges)?;

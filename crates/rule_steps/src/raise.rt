@@ -21,7 +21,12 @@ fn raised_once(mut edge: EdgeType, direction: usize) -> EdgeType
 }
 
 /// The node type with the edge type at place i raised by one in a direction, in order.
-fn bumped(alloc: Global, node: &NodeType, i: usize, direction: usize) -> Result<NodeType, AllocError>
+fn bumped(
+    alloc: Global,
+    node: &NodeType,
+    i: usize,
+    direction: usize,
+) -> Result<NodeType, AllocError>
     requires place { i < length node.now.edges }
     requires known { direction < 5 }
     requires small { AreSmallEdges (2 ^ 31) node.now }

@@ -46,11 +46,7 @@ fn monomial_product(alloc: Global, a: &[Symbol], b: &[Symbol]) -> Result<Items<S
 }
 
 /// The product of a symbol and a monomial, as a new monomial. Fails only for want of memory.
-pub fn with_symbol(
-    alloc: Global,
-    s: Symbol,
-    symbols: &[Symbol],
-) -> Result<Items<Symbol>, PolyError>
+pub fn with_symbol(alloc: Global, s: Symbol, symbols: &[Symbol]) -> Result<Items<Symbol>, PolyError>
     requires s { HasBoundedTree (symbol_of s) }
     requires symbols { IsMonomial (map symbol_of symbols.now) }
     ensures value { IfOk result (λ m. map symbol_of m ≡ with_symbol (symbol_of s) (map symbol_of symbols.now)) }

@@ -14,7 +14,11 @@ use crate::symbols::copy_symbols;
 use std::alloc::Global;
 
 /// Puts copies of terms to those that are to be collected.
-pub(crate) fn push_copies(alloc: Global, terms: &mut Vec<OrderedTerm>, from: &[Term]) -> Result<(), PolyError>
+pub(crate) fn push_copies(
+    alloc: Global,
+    terms: &mut Vec<OrderedTerm>,
+    from: &[Term],
+) -> Result<(), PolyError>
     requires { AllByRecursion IsMonomial (monomials (terms_of from.now)) }
     ensures items { OnOk result (terms.new.items ≡ terms.old.items ++ terms_of from.now) }
     ensures memory { IsOkUnless result PolyError.Memory }

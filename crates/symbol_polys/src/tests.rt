@@ -169,9 +169,14 @@ fn terms_are_summed_derived_and_multiplied(rt: HostRuntime) {
     let v = Symbol::Variable(TypeId(1), Multi::zero());
     let one = Items::new(rt.alloc());
     let v_alone = with_symbol(rt.alloc(), v, one.as_slice()).expect(&rt, "v");
-    let symbols = with_symbol(rt.alloc(), Symbol::Parameter(0), v_alone.as_slice()).expect(&rt, "p*v");
+    let symbols = with_symbol(rt.alloc(), Symbol::Parameter(0), v_alone.as_slice()).expect(
+        &rt, "p*v",
+    );
     assert_eq!(rt; symbols.len(), 2);
-    assert_eq!(rt; symbol_order(&symbols.as_slice()[0], &Symbol::Parameter(0)), Ordering::Equal);
+    assert_eq!(rt;
+        symbol_order(&symbols.as_slice()[0], &Symbol::Parameter(0)),
+        Ordering::Equal
+    );
     let by = Symbol::Variable(TypeId(1), Multi::zero());
     let term = Term {
         coefficient: 5,
@@ -184,7 +189,9 @@ fn terms_are_summed_derived_and_multiplied(rt: HostRuntime) {
     terms.push(derived).expect(&rt, "second");
     let minus = Term {
         coefficient: -5,
-        symbols: copy_symbols(rt.alloc(), terms.as_slice()[0].symbols.as_slice()).expect(&rt, "copy"),
+        symbols: copy_symbols(rt.alloc(), terms.as_slice()[0].symbols.as_slice()).expect(
+            &rt, "copy",
+        ),
     };
     terms.push(minus).expect(&rt, "third");
     let sum = sum_of_terms(rt.alloc(), terms.as_slice()).expect(&rt, "sum");
