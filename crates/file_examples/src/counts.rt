@@ -1,7 +1,6 @@
 // How much a file may have, and one more.
-use crate::files::{joined, line_of, line_with};
+use crate::files::{is_told, joined};
 use std::alloc::{AllocError, Global};
-use std::test::Fail;
 
 const TOP: &str = "version = 1\nscaling = [2, 1]\n";
 
@@ -43,32 +42,67 @@ const COUNTS: [(&str, &str, &str, u64, &str); 4] = [
     ),
 ];
 
-#[test]
-fn counts_at_their_limits(rt: HostRuntime) -> Result<(), Fail> {
-    for (before, item, behind, most, which) in COUNTS {
-        let rest = if before.starts_with("unknown") {
-            ""
-        } else {
-            UNKNOWN
-        };
-        for count in [most, most.saturating_add(1)] {
-            let items = numbered(rt.alloc(), item, count)?;
-            let file = joined(rt.alloc(), &[TOP, before, &items, behind, rest])?;
-            let measured = if which == "terms" {
-                count.saturating_add(1)
-            } else {
-                count
-            };
-            let words = format!(in rt.alloc(); "5 Limit {which} {measured}")?;
-            let wanted = if count == most { "" } else { words.as_str() };
-            assert_eq!(rt;
-                line_of(rt.alloc(), &file)?,
-                line_with(rt.alloc(), wanted)?,
-                "{count} {which}"
-            );
-        }
+// A file with so many items.
+fn file_of(
+    alloc: Global,
+    before: &str,
+    item: &str,
+    behind: &str,
+    count: u64,
+) -> Result<Vec<u8>, AllocError> {
+    let rest = if before.starts_with("unknown") {
+        ""
+    } else {
+        UNKNOWN
+    };
+    let items = numbered(alloc, item, count)?;
+    joined(alloc, &[TOP, before, &items, behind, rest])
+}
+
+// The words that refuse one more than there may be.
+fn words_of(alloc: Global, which: &str, count: u64) -> Result<String, AllocError> {
+    let measured = if which == "terms" {
+        count.saturating_add(1)
+    } else {
+        count
+    };
+    format!(in alloc; "5 Limit {which} {measured}")
+}
+
+fn are_read(alloc: Global, before: &str, item: &str, behind: &str, count: u64) -> bool {
+    match file_of(alloc, before, item, behind, count) {
+        Ok(file) => is_told(alloc, &file, ""),
+        Err(_) => false,
     }
-    Ok(())
+}
+
+fn are_too_many(
+    alloc: Global,
+    before: &str,
+    item: &str,
+    behind: &str,
+    count: u64,
+    which: &str,
+) -> bool {
+    match (
+        file_of(alloc, before, item, behind, count),
+        words_of(alloc, which, count),
+    ) {
+        (Ok(file), Ok(words)) => is_told(alloc, &file, words.as_str()),
+        _ => false,
+    }
+}
+
+#[test]
+fn counts_at_their_limits(rt: HostRuntime) {
+    for (before, item, behind, most, which) in COUNTS {
+        assert!(rt; are_read(rt.alloc(), before, item, behind, most), "{which}");
+        let more = most.saturating_add(1);
+        assert!(rt;
+            are_too_many(rt.alloc(), before, item, behind, more, which),
+            "{which}"
+        );
+    }
 }
 
 // Bytes after a file, and why it is refused.
@@ -78,12 +112,23 @@ const ENDS: [(&[u8], &str); 3] = [
     (b"# \xff", "4 NotUtf8"),
 ];
 
+fn ended(alloc: Global, end: &[u8]) -> Result<Vec<u8>, AllocError> {
+    let mut file = joined(alloc, &[TOP, UNKNOWN])?;
+    file.extend_from_slice(end)?;
+    Ok(file)
+}
+
+fn filled(alloc: Global, size: usize, byte: u8) -> Result<Vec<u8>, AllocError> {
+    let mut file = joined(alloc, &[TOP, UNKNOWN, "#"])?;
+    file.resize(size, byte)?;
+    Ok(file)
+}
+
 #[test]
-fn bytes_of_a_file(rt: HostRuntime) -> Result<(), Fail> {
+fn bytes_of_a_file(rt: HostRuntime) {
     for (end, wanted) in ENDS {
-        let mut file = joined(rt.alloc(), &[TOP, UNKNOWN])?;
-        file.extend_from_slice(end)?;
-        assert_eq!(rt; line_of(rt.alloc(), &file)?, line_with(rt.alloc(), wanted)?);
+        let file = ended(rt.alloc(), end).expect(&rt, "memory");
+        assert!(rt; is_told(rt.alloc(), &file, wanted));
     }
     for (size, byte, wanted) in [
         (65536, b'x', ""),
@@ -92,13 +137,7 @@ fn bytes_of_a_file(rt: HostRuntime) -> Result<(), Fail> {
         (65536, 255, "4 NotUtf8"),
         (65537, 255, "5 Limit bytes 65537"),
     ] {
-        let mut file = joined(rt.alloc(), &[TOP, UNKNOWN, "#"])?;
-        file.resize(size, byte)?;
-        assert_eq!(rt;
-            line_of(rt.alloc(), &file)?,
-            line_with(rt.alloc(), wanted)?,
-            "at {size}"
-        );
+        let file = filled(rt.alloc(), size, byte).expect(&rt, "memory");
+        assert!(rt; is_told(rt.alloc(), &file, wanted), "at {size}");
     }
-    Ok(())
 }

@@ -82,10 +82,18 @@ pub fn line_of(alloc: Global, file: &[u8]) -> Result<Vec<u8>, AllocError> {
 }
 
 // The line of a refusal by its words; no bytes for no words.
-pub fn line_with(alloc: Global, words: &str) -> Result<Vec<u8>, AllocError> {
+fn line_with(alloc: Global, words: &str) -> Result<Vec<u8>, AllocError> {
     if words.is_empty() {
         Ok(Vec::new(alloc))
     } else {
         joined(alloc, &["refused ", words, "\n"])
+    }
+}
+
+// Whether the line that refuses the file is that of these words; no words where the file is read.
+pub fn is_told(alloc: Global, file: &[u8], words: &str) -> bool {
+    match (line_of(alloc, file), line_with(alloc, words)) {
+        (Ok(line), Ok(wanted)) => line == wanted,
+        _ => false,
     }
 }

@@ -1,17 +1,12 @@
-//! Examples of texts of polynomials, and of texts that are none, on the types of the KPZ equation: a noise `xi` and a kernel `u` in two directions, with two
-//! parameters `a` and `b`.
+//! Examples of texts of polynomials, and of texts that are none, on the types of the KPZ equation: a noise `xi` and a kernel `u` in two directions.
 #![tactic(auto)]
+
+mod reading;
 
 #[cfg(test)]
 mod tests {
-    use degree_numbers::{Multi, Name, TypeId};
+    use crate::reading::{is_refused, is_too_large, read_and_print};
     use known_types::kpz_types;
-    use symbol_polys::PolyError::{CoefficientTooLarge, PolyText};
-    use symbol_polys::{Symbol, mul, print_poly, read_poly, scale, symbol};
-
-    fn parameters() -> [Name; 2] {
-        [Name::new(b"a").unwrap(), Name::new(b"b").unwrap()]
-    }
 
     #[test]
     fn what_is_read_is_printed(rt: HostRuntime) {
@@ -21,10 +16,10 @@ mod tests {
             (b"1", 1, 1),
             (b"-1", 1, 1),
             (b"17", 1, 17),
-            (b"a", 1, 1),
+            (b"xi", 1, 1),
             (b"-u", 1, 1),
             (b"u^12", 1, 1),
-            (b"a*b^2*u*xi", 1, 1),
+            (b"u^2*u'(0,1)*xi", 1, 1),
             (b"6*u*xi", 1, 6),
             (b"2-3*u+xi-u^2", 4, 7),
             (b"u*u'(0,1)^2*u'(2,0)", 1, 1),
@@ -48,22 +43,8 @@ mod tests {
             ),
         ];
         for (text, terms, mass) in cases {
-            let f = read_poly(rt.alloc(), &types, &parameters(), text).expect(&rt, "read");
-            assert_eq!(rt; (f.terms.len(), f.mass), (terms, mass));
-            let printed = print_poly(rt.alloc(), &types, &parameters(), &f).expect(&rt, "text");
-            assert_eq!(rt; printed.as_slice(), text);
+            assert!(rt; read_and_print(rt.alloc(), &types, text, terms, mass));
         }
-    }
-
-    #[test]
-    fn a_variable_is_printed_before_a_noise(rt: HostRuntime) {
-        let types = kpz_types(rt.alloc()).expect(&rt, "types");
-        let xi = symbol(rt.alloc(), Symbol::Noise(TypeId(0))).expect(&rt, "symbol");
-        let u = symbol(rt.alloc(), Symbol::Variable(TypeId(1), Multi::zero()));
-        let product = mul(rt.alloc(), &xi, &u.expect(&rt, "symbol")).expect(&rt, "product");
-        let multiple = scale(rt.alloc(), &product, -4).expect(&rt, "multiple");
-        let text = print_poly(rt.alloc(), &types, &parameters(), &multiple).expect(&rt, "text");
-        assert_eq!(rt; text.as_slice(), b"-4*u*xi".as_slice());
     }
 
     #[test]
@@ -136,10 +117,7 @@ mod tests {
             b"T[xi*xi]*T[xi]",
         ];
         for text in texts {
-            assert_eq!(rt;
-                read_poly(rt.alloc(), &types, &parameters(), text).err(),
-                Some(PolyText)
-            );
+            assert!(rt; is_refused(rt.alloc(), &types, text));
         }
     }
 
@@ -154,20 +132,14 @@ mod tests {
             b"1+85070591730234615865843651857942052863*u-85070591730234615865843651857942052864*u^2",
         ];
         for text in texts {
-            assert_eq!(rt;
-                read_poly(rt.alloc(), &types, &parameters(), text).err(),
-                Some(CoefficientTooLarge)
-            );
+            assert!(rt; is_too_large(rt.alloc(), &types, text));
         }
         let no_texts = [
             b"1000000000000000000000000000000000000000000000000000000000000000000000000000000*u*u".as_slice(),
             b"0170141183460469231731687303715884105728",
         ];
         for text in no_texts {
-            assert_eq!(rt;
-                read_poly(rt.alloc(), &types, &parameters(), text).err(),
-                Some(PolyText)
-            );
+            assert!(rt; is_refused(rt.alloc(), &types, text));
         }
     }
 }
