@@ -158,7 +158,12 @@ mod tests {
     #[test]
     fn an_empty_right_side_has_none(rt: HostRuntime) {
         let alloc = rt.alloc();
-        assert!(rt; says(text_for(alloc, "[2, 1]", "-3/2-k", "2", "1/4", ""), b"".as_slice()));
+        assert!(rt;
+            says(
+                text_for(alloc, "[2, 1]", "-3/2-k", "2", "1/4", ""),
+                b"".as_slice()
+            )
+        );
     }
 
     #[test]
