@@ -1,16 +1,21 @@
 //! Listings of normal rules: equations that people know, and rules at the bounds.
 #![tactic(auto)]
 
-ghost use Rattle.std.specs.Prelude.{◌<◌, length};
+ghost use Rattle.std.specs.Prelude.{◌≡◌, ◌<◌, length};
 ghost use Rattle.std.specs.List.{All};
+ghost use Rattle.std.specs.declared.option.Option.TheVariants.{Some};
+ghost use Rattle.equation_file.specs.Accepted.{IsEquation};
+ghost use Rattle.normal_rule.specs.Regularity.{IsSubcritical};
+ghost use Rattle.conforming_trees.specs.Conforming.{IsRule};
+ghost use Rattle.tree_pool.specs.declared.TreeId.{TreeId};
 
 use bumpalo::Bump;
-use equation_file::read_equation;
-use normal_rule::{check_regularity, normal_rule};
+use equation_file::{Equation, read_equation};
+use normal_rule::{Rule, check_regularity, normal_rule};
 use plain_trees::print_tree;
 use std::alloc::Global;
 use tree_budgets::normal_rule_is_rule;
-use tree_listing::{ListRefusal, list_trees};
+use tree_listing::{ListRefusal, Listing, list_trees};
 use tree_pool::{Pool, TreeId};
 
 /// The text of a tree of a pool.
@@ -50,33 +55,54 @@ fn refusal_text(refusal: ListRefusal) -> &'static [u8] {
     }
 }
 
-/// The listing of the normal rule of the equation that a file writes down, where the inequality of regularities holds for it: the text of each tree on a line, and
-/// behind them that of the first tree of degree 0, after `zero`; or the refusal.
-pub fn listing_text(alloc: Global, file: &[u8]) -> Option<Vec<u8>> {
-    let eq = read_equation(alloc, file).ok()?;
-    let rule = normal_rule(alloc, &eq).ok()?;
-    if check_regularity(&eq, &rule).is_err() {
-        return None;
+/// The texts of the trees of a listing, and behind them, after a line `zero`, that of its tree of degree 0.
+fn listed_text(alloc: Global, pool: &Pool<'_>, listing: &Listing) -> Option<Vec<u8>>
+    requires trees { All (λ id. id.0 < length pool.now.trees) listing.now.trees }
+    requires zero { (id : TreeId) → listing.now.zero ≡ Some id → id.0 < length pool.now.trees }
+{
+    let mut text = tree_lines(alloc, pool, listing.trees.as_slice())?;
+    if let Some(zero) = listing.zero {
+        put_line(&mut text, b"zero".as_slice())?;
+        let tree = tree_text(alloc, pool, zero)?;
+        put_line(&mut text, tree.as_slice())?;
     }
-    normal_rule_is_rule(&eq, &rule);
+    Some(text)
+}
+
+/// The listing of a rule in a pool of its own, as text; or the refusal.
+fn rule_listing(alloc: Global, eq: &Equation, rule: &Rule) -> Option<Vec<u8>>
+    requires equation { IsEquation eq.now }
+    requires rule { IsRule eq.now rule.now }
+    requires subcritical { IsSubcritical eq.now rule.now }
+{
     let arena = Bump::new(alloc);
-    let mut pool = Pool::new(alloc, &arena, &eq.types).ok()?;
-    match list_trees(alloc, &eq, &rule, &mut pool) {
-        Ok(listing) => {
-            let mut text = tree_lines(alloc, &pool, listing.trees.as_slice())?;
-            if let Some(zero) = listing.zero {
-                put_line(&mut text, b"zero".as_slice())?;
-                let tree = tree_text(alloc, &pool, zero)?;
-                put_line(&mut text, tree.as_slice())?;
-            }
-            Some(text)
-        }
+    let Ok(mut pool) = Pool::new(alloc, &arena, &eq.types) else {
+        return None;
+    };
+    match list_trees(alloc, eq, rule, &mut pool) {
+        Ok(listing) => listed_text(alloc, &pool, &listing),
         Err(refusal) => {
             let mut text = Vec::new(alloc);
             put_line(&mut text, refusal_text(refusal))?;
             Some(text)
         }
     }
+}
+
+/// The listing of the normal rule of the equation that a file writes down, where the inequality of regularities holds for it: the text of each tree on a line, and
+/// behind them that of the first tree of degree 0, after `zero`; or the refusal.
+pub fn listing_text(alloc: Global, file: &[u8]) -> Option<Vec<u8>> {
+    let Ok(eq) = read_equation(alloc, file) else {
+        return None;
+    };
+    let Ok(rule) = normal_rule(alloc, &eq) else {
+        return None;
+    };
+    if check_regularity(&eq, &rule).is_err() {
+        return None;
+    }
+    normal_rule_is_rule(&eq, &rule);
+    rule_listing(alloc, &eq, &rule)
 }
 
 #[cfg(test)]
