@@ -209,10 +209,11 @@ mod tests {
         assert!(rt; has_lines(text_for(alloc, "[1]", "-12/13+k", "1", "0", "u*x"), 12));
     }
 
+    // above a root decorated by X a chain of 22 derivatives has degree -4/5 and a decoration sum of 67; no tree of degree at most 0 has more than 24 edges
     #[test]
     fn the_sum_of_derivatives_decides(rt: HostRuntime) {
         let alloc = rt.alloc();
-        let text = text_for(alloc, "[6]", "-20", "132/7", "-2", "u'(3)+x");
+        let text = text_for(alloc, "[6]", "-20", "93/5", "-2", "u'(3)+x");
         assert!(rt; says(text, b"TreeTooLarge\n".as_slice()));
     }
 
