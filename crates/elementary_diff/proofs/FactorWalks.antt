@@ -44,17 +44,19 @@ pub left-kernel : (ty : Types) (sides : Sides) (c : Content) (es : List EdgeTo) 
     (left_factor ty sides c es i ≡ products (child_factor ty sides c es i) (left_factor ty sides c es (i + 1))) × (left_mass ty sides c es i ≡ child_mass ty sides c es i * left_mass ty sides c es (i + 1))
 left-kernel ty sides c es i lt is =
     let o = kind_of ty (get_or es i no_edge).kind.0 in
-    let cut = tree_cut c [] es i no_edge lt in
-    (ap (above_factor ty sides) cut ∙ ap (λ (ts : List PlainTerm). products ts (left_factor ty sides c es (i + 1))) (factor_is o (child_factor ty sides c es i) is),
-      ap (above_mass ty sides) cut ∙ ap (λ (n : ℕ). n * left_mass ty sides c es (i + 1)) (kernel_is o (child_mass ty sides c es i) is))
+    let cut = tree_cut c [] es i no_edge lt in (
+      ap (above_factor ty sides) cut ∙ ap (λ (ts : List PlainTerm). products ts (left_factor ty sides c es (i + 1))) (factor_is o (child_factor ty sides c es i) is),
+      ap (above_mass ty sides) cut ∙ ap (λ (n : ℕ). n * left_mass ty sides c es (i + 1)) (kernel_is o (child_mass ty sides c es i) is),
+    )
 
 pub left-other : (ty : Types) (sides : Sides) (c : Content) (es : List EdgeTo) (i : ℕ) → i < length es → kernel_edge (kind_of ty (get_or es i no_edge).kind.0) ≡ 0 →
     (left_factor ty sides c es i ≡ left_factor ty sides c es (i + 1)) × (left_mass ty sides c es i ≡ left_mass ty sides c es (i + 1))
 left-other ty sides c es i lt is =
     let o = kind_of ty (get_or es i no_edge).kind.0 in
-    let cut = tree_cut c [] es i no_edge lt in
-    (ap (above_factor ty sides) cut ∙ ap (λ (ts : List PlainTerm). products ts (left_factor ty sides c es (i + 1))) (no_factor o (child_factor ty sides c es i) is) ∙ products-one (left_factor ty sides c es (i + 1)),
-      ap (above_mass ty sides) cut ∙ ap (λ (n : ℕ). n * left_mass ty sides c es (i + 1)) (other_is o (child_mass ty sides c es i) is) ∙ single (left_mass ty sides c es (i + 1)))
+    let cut = tree_cut c [] es i no_edge lt in (
+      ap (above_factor ty sides) cut ∙ ap (λ (ts : List PlainTerm). products ts (left_factor ty sides c es (i + 1))) (no_factor o (child_factor ty sides c es i) is) ∙ products-one (left_factor ty sides c es (i + 1)),
+      ap (above_mass ty sides) cut ∙ ap (λ (n : ℕ). n * left_mass ty sides c es (i + 1)) (other_is o (child_mass ty sides c es i) is) ∙ single (left_mass ty sides c es (i + 1)),
+    )
   where
     single : (n : ℕ) → 1 * n ≡ n
     single n = omega arith
@@ -87,9 +89,10 @@ left-within ty sides c (e ∷ es) (suc i) h =
 above-root : (ty : Types) (sides : Sides) (n m : List ℕ) (es : List Labelled) → (above_mass ty sides (grafted n es) ≡ above_mass ty sides (grafted m es)) × (above_factor ty sides (grafted n es) ≡ above_factor ty sides (grafted m es))
 above-root ty sides n m [] = (refl, refl)
 above-root ty sides n m (e ∷ es) =
-    let rest = above-root ty sides n m es in
-    (ap (λ (x : ℕ). kernel_mass (kind_of ty e.kind.0) (root_mass ty (sides e.kind.0) e.child * above_mass ty sides e.child) * x) rest.0,
-      ap (λ (ts : List PlainTerm). products (kernel_factor (kind_of ty e.kind.0) (products (root_factor ty (sides e.kind.0) e.child) (above_factor ty sides e.child))) ts) rest.1)
+    let rest = above-root ty sides n m es in (
+      ap (λ (x : ℕ). kernel_mass (kind_of ty e.kind.0) (root_mass ty (sides e.kind.0) e.child * above_mass ty sides e.child) * x) rest.0,
+      ap (λ (ts : List PlainTerm). products (kernel_factor (kind_of ty e.kind.0) (products (root_factor ty (sides e.kind.0) e.child) (above_factor ty sides e.child))) ts) rest.1,
+    )
 
 pub left-whole : (ty : Types) (sides : Sides) (c : Content) (i : ℕ) (n : List ℕ) (es : List EdgeTo) → Holds c i (tree_over c.trees n es) →
     (left_mass ty sides c es 0 ≡ above_mass ty sides (tree_at c i)) × (left_factor ty sides c es 0 ≡ above_factor ty sides (tree_at c i))

@@ -1,4 +1,4 @@
-//! Symmetry factors of trees.
+//! Symmetry factors of trees, and what elementary differentials are made of.
 #![tactic(auto)]
 
 mod ordering;
