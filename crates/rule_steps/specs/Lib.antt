@@ -1,3 +1,4 @@
 pub mod Sets
+pub mod Steps
 pub mod Sums
 pub mod Units

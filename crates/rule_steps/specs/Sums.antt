@@ -3,6 +3,7 @@
 --   raisings n ms == all ways to raise the edge types ms by multiindices that are together at most n
 --   row_of rule k == the node types of the row of kernel k
 --   options ty rule k es == the edge types that can be added to es so that the rule of type k allows them together
+--   additions_to ty rule k n es == all additions at a node with the decoration n and the edge types es, above an edge of type k
 --   additions_at ty rule k t == all additions at the root of t, above an edge of type k
 --   sums xs ys == each of xs with each of ys together
 --   additions_above ty rule t == all additions above the root of t together
@@ -54,8 +55,11 @@ options_by (Some Kernel) rule k es = options_in (nodes_of_kernel rule.rows k) es
 abbrev pub options : Types → Rule → ℕ → List EdgeLabel → List (List EdgeLabel)
 options ty rule k es = options_by (kind_of ty k) rule k es
 
+abbrev pub additions_to : Types → Rule → ℕ → List ℕ → List EdgeLabel → List (List EdgeLabel)
+additions_to ty rule k n es = flat_map (raisings n) (options ty rule k es)
+
 abbrev pub additions_at : Types → Rule → ℕ → Plain → List (List EdgeLabel)
-additions_at ty rule k t = flat_map (raisings (root_of t)) (options ty rule k (node_type_of t))
+additions_at ty rule k t = additions_to ty rule k (root_of t) (node_type_of t)
 
 abbrev pub sums : List (List EdgeLabel) → List (List EdgeLabel) → List (List EdgeLabel)
 sums xs ys = flat_map (λ x. map (join x) ys) xs

@@ -1,5 +1,10 @@
 //! One step of the completion of a rule.
 #![tactic(auto)]
 
+mod additions;
 mod edges;
 mod raise;
+mod step;
+mod sums;
+
+pub use step::next_stage;
