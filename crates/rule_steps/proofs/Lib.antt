@@ -1,6 +1,7 @@
 pub mod Bumped
 pub mod Inserted
 pub mod Made
+pub mod NodeSets
 pub mod Options
 pub mod Raisings
 pub mod Rows
