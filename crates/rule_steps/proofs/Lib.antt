@@ -1,9 +1,12 @@
+pub mod AboveSets
 pub mod Bumped
 pub mod Inserted
 pub mod Made
 pub mod NodeSets
 pub mod Options
 pub mod Raisings
+pub mod RootTypes
 pub mod Rows
+pub mod SumSets
 pub mod UnitSets
 pub mod Units

@@ -85,26 +85,26 @@ raised-none n [] (r ∷ rs) q h = absurd h
 raised-none n (m ∷ ms) rs q h = absurd cc
 
 -- lists in which each edge type stands as often, joined to the same
-same-joins : (xs ys zs : List EdgeLabel) → IsInLabelOrder zs → SameCounts xs ys → join xs zs ≡ join ys zs
+pub same-joins : (xs ys zs : List EdgeLabel) → IsInLabelOrder zs → SameCounts xs ys → join xs zs ≡ join ys zs
 same-joins xs ys zs h same = same_labels (join xs zs) (join ys zs) (join-sorted xs zs h) (join-sorted ys zs h) (λ z. omega (arith, count-join z xs zs, count-join z ys zs, same z))
 
-in_sums : (xs ys : List (List EdgeLabel)) (x y : List EdgeLabel) → IsIn x xs → IsIn y ys → IsIn (join x y) (sums xs ys)
+pub in_sums : (xs ys : List (List EdgeLabel)) (x y : List EdgeLabel) → IsIn x xs → IsIn y ys → IsIn (join x y) (sums xs ys)
 in_sums xs ys x y h k = in_flat_map (λ x. map (join x) ys) (join x y) x xs h (in_map (join x) y ys k)
 
-from_sums : (xs ys : List (List EdgeLabel)) (z : List EdgeLabel) → IsIn z (sums xs ys) → (x y : List EdgeLabel) × IsIn x xs × IsIn y ys × (z ≡ join x y)
+pub from_sums : (xs ys : List (List EdgeLabel)) (z : List EdgeLabel) → IsIn z (sums xs ys) → (x y : List EdgeLabel) × IsIn x xs × IsIn y ys × (z ≡ join x y)
 from_sums xs ys z h =
     let x = from_flat_map (λ x. map (join x) ys) z xs h in
     let y = from_map (join x.0) z ys x.2 in
     (x.0, y.0, x.1, y.1, sym y.2)
 
 module _ (eq : Equation) (rule : Rule) (equation : IsEquation eq) (is_rule : IsRule eq rule) where
-  kernel_of_row : (k : ℕ) (es : List EdgeLabel) → IsInKernelRow rule k es → kind_of eq.types k ≡ Some Kernel
+  pub kernel_of_row : (k : ℕ) (es : List EdgeLabel) → IsInKernelRow rule k es → kind_of eq.types k ≡ Some Kernel
   kernel_of_row k es h = ap (kind_of eq.types) (sym h.2) ∙ row_kind eq rule h.0 equation is_rule.rows h.1
 
-  options-noise : (k : ℕ) (es : List EdgeLabel) → kind_of eq.types k ≡ Some Noise → options eq.types rule k es ≡ [] ∷ []
+  pub options-noise : (k : ℕ) (es : List EdgeLabel) → kind_of eq.types k ≡ Some Noise → options eq.types rule k es ≡ [] ∷ []
   options-noise k es h = rw h refl
 
-  options-kernel : (k : ℕ) (es : List EdgeLabel) → kind_of eq.types k ≡ Some Kernel → options eq.types rule k es ≡ options_in (nodes_of_kernel rule.rows k) es
+  pub options-kernel : (k : ℕ) (es : List EdgeLabel) → kind_of eq.types k ≡ Some Kernel → options eq.types rule k es ≡ options_in (nodes_of_kernel rule.rows k) es
   options-kernel k es h = rw h refl
 
   option-in_row : (k : ℕ) (t : Plain) (ms : List EdgeLabel) → IsIn ms (options_in (nodes_of_kernel rule.rows k) (node_type_of t)) → IsInKernelRow rule k (join ms (node_type_of t))

@@ -4,6 +4,7 @@
 mod additions;
 mod edges;
 mod raise;
+mod roots;
 mod sets;
 mod step;
 mod sums;

@@ -1,18 +1,34 @@
 // What can be added at the nodes of a tree together.
-ghost use Rattle.std.specs.Prelude.{◌≡◌, ◌<◌, ◌≤◌, ◌^◌, List, length, IfOk, IfErr};
+ghost use Rattle.std.specs.Prelude.{◌≡◌, ◌<◌, ◌^◌, [], ◌∷◌, length, map, IfOk, IfErr};
 ghost use Rattle.equation_file.specs.Accepted.{IsEquation};
 ghost use Rattle.ordered_lists.specs.Members.{IsIn};
 ghost use Rattle.tree_pool.specs.Content.{tree_at};
-ghost use Rattle.plain_trees.specs.Plain.{decoration_sum_of};
 ghost use Rattle.normal_rule.specs.declared.rule.RuleRefusal.TheVariants.{RuleTooLarge};
-ghost use Rattle.conforming_trees.specs.Conforming.{IsRule, ConformsAbove};
+ghost use Rattle.normal_rule.specs.Order.{empty_node};
+ghost use Rattle.conforming_trees.specs.Conforming.{labels, IsRule, ConformsAbove};
+ghost use Rattle.rule_stages.specs.Stages.{join};
 ghost use Rattle.rule_steps.specs.Sets.{IsSetOf, HasMany, IsSumOf, IsSmallRule};
 ghost use Rattle.rule_steps.specs.Sums.{additions_above};
 
+use crate::edges::joined;
+use crate::roots::additions_at_root;
+use crate::sets::put_few;
 use equation_file::Equation;
 use normal_rule::{NodeType, Rule, RuleRefusal};
-use std::alloc::Global;
+use std::alloc::{AllocError, Global};
+use std::collections::BTreeSet;
 use tree_pool::{Pool, TreeId};
+
+/// A node type with each of others together. Fails only for want of memory.
+fn with_each(alloc: Global, x: &NodeType, ys: &[NodeType]) -> Result<Vec<NodeType>, AllocError>
+    ensures { IfOk result (λ v. map labels v.items ≡ map (join (labels x.now)) (map labels ys.now)) }
+{
+    let mut all = Vec::new(alloc);
+    for y in ys {
+        all.push(joined(alloc, x.edges.as_slice(), y.edges.as_slice())?)?;
+    }
+    Ok(all)
+}
 
 /// Each of some node types with each of others together. Fails with `RuleTooLarge` only where that are more than 2,000, and for want of memory.
 pub(crate) fn sums(
@@ -23,7 +39,20 @@ pub(crate) fn sums(
     ensures set { IfOk result (λ v. IsSetOf (IsSumOf xs.now ys.now) v.items) }
     ensures large { IfErr result (λ e. e ≡ RuleTooLarge → HasMany (IsSumOf xs.now ys.now)) }
 {
-    Err(RuleRefusal::Memory)
+    let mut all = BTreeSet::new(alloc);
+    for x in xs {
+        put_few(with_each(alloc, x, ys)?, &mut all)?;
+    }
+    Ok(all.into_iter().collect(alloc)?)
+}
+
+/// The empty node type alone. Fails only for want of memory.
+fn empty_alone(alloc: Global) -> Result<Vec<NodeType>, AllocError>
+    ensures { IfOk result (λ v. v.items ≡ empty_node ∷ []) }
+{
+    let mut nodes = Vec::new(alloc);
+    nodes.push(NodeType::empty(alloc))?;
+    Ok(nodes)
 }
 
 /// All additions above the root of a tree of the pool, together. Fails with `RuleTooLarge` only where that are more than 2,000, and for want of memory.
@@ -43,5 +72,16 @@ pub(crate) fn additions_above(
     ensures set { IfOk result (λ v. IsSetOf (λ es. IsIn es (additions_above eq.now.types rule.now (tree_at pool.now id.0))) v.items) }
     ensures large { IfErr result (λ e. e ≡ RuleTooLarge → HasMany (λ es. IsIn es (additions_above eq.now.types rule.now (tree_at pool.now id.0)))) }
 {
-    Err(RuleRefusal::Memory)
+    let (_, edges) = pool.node(id);
+    let mut all = empty_alone(alloc)?;
+    let mut i = edges.len();
+    while i > 0 {
+        i -= 1;
+        let e = edges[i];
+        let at = additions_at_root(alloc, eq, rule, pool, e.kind, e.child)?;
+        let above = additions_above(alloc, eq, rule, pool, e.child)?;
+        let inner = sums(alloc, above.as_slice(), all.as_slice())?;
+        all = sums(alloc, at.as_slice(), inner.as_slice())?;
+    }
+    Ok(all)
 }
