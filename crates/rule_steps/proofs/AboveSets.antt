@@ -16,7 +16,7 @@ use Rattle.conforming_trees.specs.Conforming.{EdgeLabel, labels, node_type_of, I
 use Rattle.conforming_trees.proofs.Labels.{IsInLabelOrder, node_type-sorted, same_labels}
 use Rattle.rule_stages.specs.Stages.{join}
 use Rattle.rule_stages.proofs.Joins.{count-join, join-sorted, join-nil-sorted}
-use Rattle.rule_steps.specs.Sets.{IsSetOf, HasMany, IsSumOf, IsAdditionTo}
+use Rattle.rule_steps.specs.Sets.{IsSetOf, HasMany, IsSumOf, IsAdditionAt}
 use Rattle.rule_steps.specs.Sums.{without, raisings, nodes_of_kernel, listed_option, options, additions_at, sums, additions_above}
 use Rattle.rule_steps.proofs.Made.{same-joins, in_sums, from_sums, kernel_of_row, options-noise, options-kernel}
 use Rattle.rule_steps.proofs.NodeSets.{set_by, set_one, many_more}
@@ -25,9 +25,6 @@ use Rattle.rule_steps.proofs.Rows.{from_kernel_row, node_labels_sorted}
 
 abbrev pub IsAbove : Types → Rule → Plain → List EdgeLabel → Type 0
 IsAbove ty rule t es = IsIn es (additions_above ty rule t)
-
-abbrev pub IsAtRoot : Types → Rule → ℕ → Plain → List EdgeLabel → Type 0
-IsAtRoot ty rule k t = IsAdditionTo ty rule k (root_of t) (node_type_of t)
 
 join-none : (es : List EdgeLabel) → IsInLabelOrder es → join es [] ≡ es
 join-none es h = same_labels (join es []) es (join-nil-sorted es) h (λ z. omega (arith, count-join z es []))
@@ -58,7 +55,7 @@ to_parts es a b x y sorted is first second = is ∙ sym (put_twice a b sorted) �
 
 -- a sum of what is added at the first edge's node, above it and at the other edges
 sum-is : (ty : Types) (rule : Rule) (k : ℕ) (p : List ℕ) (c t : Plain) (at above others inner : List NodeType) →
-    IsSetOf (IsAtRoot ty rule k c) at → IsSetOf (IsAbove ty rule c) above → IsSetOf (IsAbove ty rule t) others → IsSetOf (IsSumOf above others) inner → (es : List EdgeLabel) → IsSumOf at inner es → IsAbove ty rule (graft k p c t) es
+    IsSetOf (IsAdditionAt ty rule k c) at → IsSetOf (IsAbove ty rule c) above → IsSetOf (IsAbove ty rule t) others → IsSetOf (IsSumOf above others) inner → (es : List EdgeLabel) → IsSumOf at inner es → IsAbove ty rule (graft k p c t) es
 sum-is ty rule k p c t at above others inner a u v w es s =
     let r = a.only s.0 s.2 in
     let i = w.only s.1 s.3 in
@@ -68,7 +65,7 @@ sum-is ty rule k p c t at above others inner a u v w es s =
     in_above ty rule k p c t r.0 (labels i.0) (labels i.1) es r.1 up other (from_parts es r.0 (join (labels i.0) (labels i.1)) (labels s.0) (labels s.1) sorted s.4 r.2 i.4)
 
 is-sum : (ty : Types) (rule : Rule) (k : ℕ) (p : List ℕ) (c t : Plain) (at above others inner : List NodeType) →
-    IsSetOf (IsAtRoot ty rule k c) at → IsSetOf (IsAbove ty rule c) above → IsSetOf (IsAbove ty rule t) others → IsSetOf (IsSumOf above others) inner → (es : List EdgeLabel) → IsAbove ty rule (graft k p c t) es → IsSumOf at inner es
+    IsSetOf (IsAdditionAt ty rule k c) at → IsSetOf (IsAbove ty rule c) above → IsSetOf (IsAbove ty rule t) others → IsSetOf (IsSumOf above others) inner → (es : List EdgeLabel) → IsAbove ty rule (graft k p c t) es → IsSumOf at inner es
 is-sum ty rule k p c t at above others inner a u v w es h =
     let first = from_sums (additions_at ty rule k c) (sums (additions_above ty rule c) (additions_above ty rule t)) es h in
     let second = from_sums (additions_above ty rule c) (additions_above ty rule t) first.1 first.3 in
@@ -84,7 +81,7 @@ is-sum ty rule k p c t at above others inner a u v w es h =
 above_none : (ty : Types) (rule : Rule) (n : List ℕ) → IsSetOf (IsAbove ty rule (bare n)) (empty_node ∷ [])
 above_none ty rule n = set_one (IsAbove ty rule (bare n)) empty_node (inl refl) (λ es h. elim h [ inl e ↦ e | inr none ↦ absurd none ])
 
-above_more : (ty : Types) (rule : Rule) (k : ℕ) (p : List ℕ) (c t : Plain) (at above others inner all : List NodeType) → IsSetOf (IsAtRoot ty rule k c) at → IsSetOf (IsAbove ty rule c) above → IsSetOf (IsAbove ty rule t) others →
+above_more : (ty : Types) (rule : Rule) (k : ℕ) (p : List ℕ) (c t : Plain) (at above others inner all : List NodeType) → IsSetOf (IsAdditionAt ty rule k c) at → IsSetOf (IsAbove ty rule c) above → IsSetOf (IsAbove ty rule t) others →
     IsSetOf (IsSumOf above others) inner → IsSetOf (IsSumOf at inner) all → IsSetOf (IsAbove ty rule (graft k p c t)) all
 above_more ty rule k p c t at above others inner all a u v w =
     set_by (IsSumOf at inner) (IsAbove ty rule (graft k p c t)) all (sum-is ty rule k p c t at above others inner a u v w) (is-sum ty rule k p c t at above others inner a u v w)
@@ -115,7 +112,7 @@ below_before b es i h some le = below_at b es (i - 1) no_edge h (omega (arith, s
 pub above_end : (ty : Types) (rule : Rule) (c : Content) (n : List ℕ) (es : List EdgeTo) (all : List NodeType) → all ≡ empty_node ∷ [] → IsSetOf (IsAbove ty rule (left c n es (length es))) all
 above_end ty rule c n es all is = rw (none_left es (length es) (omega arith), is) (above_none ty rule n)
 
-pub above_step : (ty : Types) (rule : Rule) (c : Content) (n : List ℕ) (es : List EdgeTo) (i : ℕ) (at above others inner all : List NodeType) → 0 < i → i ≤ length es → IsSetOf (IsAtRoot ty rule (edge_before es i).kind.0 (upper c es i)) at →
+pub above_step : (ty : Types) (rule : Rule) (c : Content) (n : List ℕ) (es : List EdgeTo) (i : ℕ) (at above others inner all : List NodeType) → 0 < i → i ≤ length es → IsSetOf (IsAdditionAt ty rule (edge_before es i).kind.0 (upper c es i)) at →
     IsSetOf (IsAbove ty rule (upper c es i)) above → IsSetOf (IsAbove ty rule (left c n es i)) others → IsSetOf (IsSumOf above others) inner → IsSetOf (IsSumOf at inner) all → IsSetOf (IsAbove ty rule (left c n es (i - 1))) all
 above_step ty rule c n es i at above others inner all some le a u v w x =
     subst (λ (t : Plain). IsSetOf (IsAbove ty rule t) all) (sym (left_before c n es i some le))
@@ -183,10 +180,10 @@ module _ (eq : Equation) (rule : Rule) (equation : IsEquation eq) (is_rule : IsR
         subst (λ (t : Plain). HasMany (IsAbove eq.types rule t)) (sym (at_holds c id (tree_over c.trees n es) holds)) (many-left c n es (i - 1) conforms-whole here)
 
     -- more than 2,000 on the way
-    pub many_at : HasMany (IsAtRoot eq.types rule (edge_before es i).kind.0 (upper c es i)) → HasMany (IsAbove eq.types rule (tree_at c id))
+    pub many_at : HasMany (IsAdditionAt eq.types rule (edge_before es i).kind.0 (upper c es i)) → HasMany (IsAbove eq.types rule (tree_at c id))
     many_at h =
         let e = edge_before es i in
-        many-whole (many_more (IsAtRoot eq.types rule e.kind.0 (upper c es i)) (IsAbove eq.types rule (cut_before c n es i))
+        many-whole (many_more (IsAdditionAt eq.types rule e.kind.0 (upper c es i)) (IsAbove eq.types rule (cut_before c n es i))
         (λ ls m. in_above eq.types rule e.kind.0 e.p.entries (upper c es i) (left c n es i) m.0 [] [] ls m.1 (nil-above (upper c es i) edge_conforms.1) (nil-above (left c n es i) edge_conforms.2) m.2) h)
 
     pub many_child : HasMany (IsAbove eq.types rule (upper c es i)) → HasMany (IsAbove eq.types rule (tree_at c id))
@@ -202,7 +199,7 @@ module _ (eq : Equation) (rule : Rule) (equation : IsEquation eq) (is_rule : IsR
         many-whole (many_more (IsSumOf above others) (IsAbove eq.types rule (cut_before c n es i))
         (λ ls s. in_above eq.types rule e.kind.0 e.p.entries (upper c es i) (left c n es i) [] (labels s.0) (labels s.1) ls (nil-at e.kind.0 (upper c es i) edge_conforms.0) (u.only s.0 s.2) (v.only s.1 s.3) s.4) h)
 
-    pub many_all : (at above others inner : List NodeType) → IsSetOf (IsAtRoot eq.types rule (edge_before es i).kind.0 (upper c es i)) at → IsSetOf (IsAbove eq.types rule (upper c es i)) above → IsSetOf (IsAbove eq.types rule (left c n es i)) others →
+    pub many_all : (at above others inner : List NodeType) → IsSetOf (IsAdditionAt eq.types rule (edge_before es i).kind.0 (upper c es i)) at → IsSetOf (IsAbove eq.types rule (upper c es i)) above → IsSetOf (IsAbove eq.types rule (left c n es i)) others →
         IsSetOf (IsSumOf above others) inner → HasMany (IsSumOf at inner) → HasMany (IsAbove eq.types rule (tree_at c id))
     many_all at above others inner a u v w h =
         let e = edge_before es i in

@@ -5,6 +5,7 @@
 --   HasMany P == more than 2,000 node types have, by their labels, the property P
 --   IsSumOf xs ys es == es are the edge types of one of the node types xs and of one of the node types ys together
 --   IsAdditionTo ty rule k n es fs == fs are edge types that can be added to a node with the decoration n and the edge types es, above an edge of type k: an addition, in order
+--   IsAdditionAt ty rule k t es == so it is with es and the root of t
 --   IsRaisedFrom n ms es == es are the edge types ms, raised by at most n together, in order
 --   IsBumpedFrom d es fs == fs are es with one of them raised by one in direction d, in order
 --   AreSmallEntries most ns == no entry of a derivative decoration in ns is greater than most
@@ -13,11 +14,12 @@ use Rattle.std.specs.List.{All}
 use Rattle.std.specs.List.Sorted.{IsStrictlySortedBy}
 use Rattle.degree_numbers.specs.declared.types.Types.{Types}
 use Rattle.ordered_lists.specs.Members.{IsIn}
+use Rattle.plain_trees.specs.Plain.{Plain, root_of}
 use Rattle.normal_rule.specs.declared.rule.NodeType.{NodeType}
 use Rattle.normal_rule.specs.declared.rule.Rule.{Rule}
 use Rattle.normal_rule.specs.declared.rule.RuleRow.{RuleRow}
 use Rattle.normal_rule.specs.Order.{node_order}
-use Rattle.conforming_trees.specs.Conforming.{EdgeLabel, labels}
+use Rattle.conforming_trees.specs.Conforming.{EdgeLabel, labels, node_type_of}
 use Rattle.rule_stages.specs.Stages.{join, IsRaised}
 use Rattle.rule_steps.specs.Units.{IsBumped}
 use Rattle.rule_steps.specs.Sums.{additions_to}
@@ -44,6 +46,9 @@ IsSumOf xs ys es = (x y : NodeType) × IsIn x xs × IsIn y ys × (es ≡ join (l
 
 abbrev pub IsAdditionTo : Types → Rule → ℕ → List ℕ → List EdgeLabel → List EdgeLabel → Type 0
 IsAdditionTo ty rule k n es fs = (rs : List EdgeLabel) × IsIn rs (additions_to ty rule k n es) × (fs ≡ join rs [])
+
+abbrev pub IsAdditionAt : Types → Rule → ℕ → Plain → List EdgeLabel → Type 0
+IsAdditionAt ty rule k t es = IsAdditionTo ty rule k (root_of t) (node_type_of t) es
 
 abbrev pub IsRaisedFrom : List ℕ → List EdgeLabel → List EdgeLabel → Type 0
 IsRaisedFrom n ms es = (rs : List EdgeLabel) × IsRaised n ms rs × (es ≡ join rs [])

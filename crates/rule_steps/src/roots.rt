@@ -1,11 +1,10 @@
 // The roots of trees of a pool: their node types, and what can be added at them.
 ghost use Rattle.std.specs.Prelude.{◌≡◌, ◌<◌, ◌^◌, length, map, IfOk, IfErr};
 ghost use Rattle.equation_file.specs.Accepted.{IsEquation};
-ghost use Rattle.plain_trees.specs.Plain.{root_of};
 ghost use Rattle.tree_pool.specs.Content.{tree_at};
 ghost use Rattle.normal_rule.specs.declared.rule.RuleRefusal.TheVariants.{RuleTooLarge};
 ghost use Rattle.conforming_trees.specs.Conforming.{labels, node_type_of, IsRule};
-ghost use Rattle.rule_steps.specs.Sets.{IsSetOf, HasMany, IsAdditionTo, IsSmallRule};
+ghost use Rattle.rule_steps.specs.Sets.{IsSetOf, HasMany, IsAdditionAt, IsSmallRule};
 
 use crate::additions::additions_at;
 use crate::edges::joined;
@@ -45,8 +44,8 @@ pub(crate) fn additions_at_root(
     requires rule { IsRule eq.now rule.now }
     requires small { IsSmallRule (2 ^ 30) rule.now }
     requires known { id.0 < length pool.now.trees }
-    ensures set { IfOk result (λ v. IsSetOf (IsAdditionTo eq.now.types rule.now kind.0 (root_of (tree_at pool.now id.0)) (node_type_of (tree_at pool.now id.0))) v.items) }
-    ensures large { IfErr result (λ e. e ≡ RuleTooLarge → HasMany (IsAdditionTo eq.now.types rule.now kind.0 (root_of (tree_at pool.now id.0)) (node_type_of (tree_at pool.now id.0)))) }
+    ensures set { IfOk result (λ v. IsSetOf (IsAdditionAt eq.now.types rule.now kind.0 (tree_at pool.now id.0)) v.items) }
+    ensures large { IfErr result (λ e. e ≡ RuleTooLarge → HasMany (IsAdditionAt eq.now.types rule.now kind.0 (tree_at pool.now id.0))) }
 {
     let (n, _) = pool.node(id);
     let root = root_type(alloc, pool, id)?;
