@@ -2,7 +2,7 @@
 use Line::{Noise, Parameters, Scaling, Top, Unknown, Version};
 use equation_file::read_equation;
 use std::alloc::{AllocError, Global};
-use workbench_cli::{Refusal, print_refusal};
+use workbench_core::{Refusal, print_refusal};
 
 #[derive(Clone, Copy, PartialEq, Eq)]
 pub enum Line {

@@ -1,11 +1,11 @@
 -- Answers to `check`.
 use Rattle.std.proofs.Common.{◌≡◌, ◌⊎◌, inl, inr, ℕ, List, [], Option, None, Some, Result, Ok, Err, IfOk, IfErr, take, refl, sym, ap, ◌∙◌, subst, get_or}
 use Rattle.workbench_cli.specs.Answer.{Answer, of_check, of_write_fault, IsAnswer, IsOfFile}
-use Rattle.workbench_cli.specs.Check.{IsChecked}
+use Rattle.workbench_core.specs.Check.{IsChecked}
 use Rattle.workbench_cli.specs.Words.{IsCheck}
-use Rattle.workbench_cli.proofs.FileLemmas.{checked_front}
-use Rattle.workbench_cli.specs.declared.refusal.Refusal.{Refusal}
-use Rattle.workbench_cli.specs.declared.refusal.Refusal.TheVariants.{FileFault, Memory}
+use Rattle.workbench_core.proofs.FileLemmas.{checked_front}
+use Rattle.workbench_core.specs.declared.refusal.Refusal.{Refusal}
+use Rattle.workbench_core.specs.declared.refusal.Refusal.TheVariants.{FileFault, Memory}
 
 -- what the bytes that were read give is what the file gives
 pub of_front : (told : Option (List ℕ)) (bytes : List ℕ) (r : Result (List ℕ) Refusal) → ((text : List ℕ) → told ≡ Some text → bytes ≡ take 65537 text) → IsChecked bytes r → IsOfFile told r

@@ -1,5 +1,1 @@
 mod Answers
-mod FileLemmas
-mod KernelRows
-mod Statuses
-mod TextLemmas

@@ -11,10 +11,10 @@
 --   Asks words code old new == the told names grew by the file of the words and by nothing else, or by nothing where memory was wanting
 use Rattle.std.specs.Prelude.{◌≡◌, ◌⊎◌, ⊤, ℕ, List, [], ◌∷◌, codes, Option, None, Some, Result, Ok, Err}
 use Rattle.wb_outside.specs.Told.{Lengthens}
-use Rattle.workbench_cli.specs.declared.refusal.Refusal.{Refusal}
-use Rattle.workbench_cli.specs.declared.refusal.Refusal.TheVariants.{FileFault, Memory}
-use Rattle.workbench_cli.specs.Check.{IsChecked}
-use Rattle.workbench_cli.specs.Refusals.{status_of, line_of}
+use Rattle.workbench_core.specs.declared.refusal.Refusal.{Refusal}
+use Rattle.workbench_core.specs.declared.refusal.Refusal.TheVariants.{FileFault, Memory}
+use Rattle.workbench_core.specs.Check.{IsChecked}
+use Rattle.workbench_core.specs.Refusals.{status_of, line_of}
 use Rattle.workbench_cli.specs.Words.{IsCheck, IsNoCheck}
 
 pub record Answer : Type 0 where

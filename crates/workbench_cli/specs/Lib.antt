@@ -1,6 +1,2 @@
 pub mod Answer
-pub mod Check
-pub mod CheckText
-pub mod Refusals
-pub mod Verdict
 pub mod Words

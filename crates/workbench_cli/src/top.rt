@@ -2,19 +2,17 @@
 ghost use Rattle.std.specs.Prelude.{◌≡◌, ◌≢◌, ◌↔◌, ◌⊎◌, ℕ, List, [], ◌∷◌, ◌≤◌, take, map, codes, Some, Ok, Err, string_bytes, IfOk, IfErr, Result};
 ghost use Rattle.wb_outside.specs.Causes.{Rose};
 ghost use Rattle.wb_outside.specs.Told.{Lengthens, Grows, Gets};
-ghost use Rattle.workbench_cli.specs.declared.refusal.Refusal.{Refusal};
+ghost use Rattle.workbench_core.specs.declared.refusal.Refusal.{Refusal};
 ghost use Rattle.workbench_cli.specs.Answer.{Answer, of_check, of_write_fault, IsOfFile, IsAnswer, IsAnswerTo, AsksFor, Asks};
-ghost use Rattle.workbench_cli.specs.Check.{IsChecked};
-ghost use Rattle.workbench_cli.specs.Refusals.{status_of, line_of};
+ghost use Rattle.workbench_core.specs.Check.{IsChecked};
+ghost use Rattle.workbench_core.specs.Refusals.{status_of, line_of};
 ghost use Rattle.workbench_cli.specs.Words.{IsCheck, IsNoCheck};
 
-use crate::check::check;
-use crate::lines::print_refusal;
-use crate::refusal::Refusal;
 use crate::words::file_of;
 use equation_file::MOST_BYTES;
 use std::alloc::Global;
 use wb_outside::{Files, OutsideError, Sink};
+use workbench_core::{Refusal, check, print_refusal};
 
 // One byte more than a file may have, so that a longer file is not taken for one that has as many.
 const MOST_FILE_BYTES: usize = MOST_BYTES + 1;

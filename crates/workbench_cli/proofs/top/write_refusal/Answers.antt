@@ -1,5 +1,5 @@
 use Rattle.std.proofs.Common.{inl, sym}
-use Rattle.workbench_cli.specs.declared.refusal.Refusal.TheVariants.{FileFault, Memory}
+use Rattle.workbench_core.specs.declared.refusal.Refusal.TheVariants.{FileFault, Memory}
 use Rattle.workbench_cli.proofs.top.write_refusal.Goals as goal
 
 pub returns-in-FileFault-clause-answer : goal.returns-in-FileFault-clause-answer

@@ -1,6 +1,6 @@
 // The lines of refusals.
 ghost use Rattle.std.specs.Prelude.{◌≡◌, ◌++◌, codes, IfOk, IfErr, OnOk};
-ghost use Rattle.workbench_cli.specs.Refusals.{reason_text, which_text, line_of};
+ghost use Rattle.workbench_core.specs.Refusals.{reason_text, which_text, line_of};
 
 use crate::refusal::Refusal;
 use equation_file::{Reason, Which};

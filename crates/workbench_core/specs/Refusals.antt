@@ -11,8 +11,8 @@ use Rattle.equation_document.specs.declared.fault.Which.{Which}
 use Rattle.equation_document.specs.declared.fault.Which.TheVariants as limits
 use Rattle.equation_file.specs.declared.refusal.FileRefusal.{FileRefusal}
 use Rattle.equation_file.specs.declared.refusal.FileRefusal.TheVariants as files
-use Rattle.workbench_cli.specs.declared.refusal.Refusal.{Refusal}
-use Rattle.workbench_cli.specs.declared.refusal.Refusal.TheVariants.{FileFault, NotUtf8, NotToml, Malformed, Limit, NotSubcritical, RuleTooLarge, Memory}
+use Rattle.workbench_core.specs.declared.refusal.Refusal.{Refusal}
+use Rattle.workbench_core.specs.declared.refusal.Refusal.TheVariants.{FileFault, NotUtf8, NotToml, Malformed, Limit, NotSubcritical, RuleTooLarge, Memory}
 
 abbrev pub reason_text : Reason → List ℕ
 reason_text reasons.Missing = codes "missing"

@@ -1,4 +1,4 @@
-// The verdict on an equation: its check text, or where it is not subcritical.
+// The verdict on an equation file: its check text, or why it is refused.
 ghost use Rattle.std.specs.Prelude.{◌≡◌, ◌⊎◌, ◌<◌, ℕ, List, [], length, pos, IfOk, IfErr, IfSome, Ok, Err};
 ghost use Rattle.std.specs.List.{find};
 ghost use Rattle.std.specs.Option.{option_map, option_and_then};
@@ -7,18 +7,30 @@ ghost use Rattle.equation_file.specs.Accepted.{IsEquation};
 ghost use Rattle.normal_rule.specs.Regularity.{IsFirstFailure, HasRows};
 ghost use Rattle.normal_rule.specs.Rule.{IsNormalRule};
 ghost use Rattle.normal_rule.specs.Text.{IsKnownNode, AreKnown};
-ghost use Rattle.workbench_cli.specs.Verdict.{node_in, node_text_in, IsNotSubcritical, IsVerdict};
+ghost use Rattle.workbench_core.specs.Check.{IsChecked};
+ghost use Rattle.workbench_core.specs.Verdict.{node_in, node_text_in, IsNotSubcritical, IsVerdict};
 
 use crate::refusal::Refusal;
 use crate::text::{check_text, kernel_name, side_text};
 use degree_numbers::{TypeId, Types};
-use equation_file::Equation;
+use equation_file::{Equation, read_equation};
 use normal_rule::{
     NodeType, NotSubcritical, Rule, RuleRefusal, RuleRow, check_regularity, normal_rule,
     put_node_type,
 };
 use sqlite_items::Items;
 use std::alloc::{AllocError, Global};
+
+/// The check text of a file, or why it is refused.
+pub fn check(alloc: Global, file: &[u8]) -> Result<Vec<u8>, Refusal>
+    ensures text { IfOk result (λ v. IsChecked file.now (Ok v.items)) }
+    ensures refused { IfErr result (λ e. (e ≡ Refusal.Memory) ⊎ IsChecked file.now (Err e)) }
+{
+    match read_equation(alloc, file) {
+        Ok(eq) => verdict_on(alloc, &eq),
+        Err(refusal) => Err(Refusal::of_file(refusal)),
+    }
+}
 
 /// The check text of an equation, or why it is refused.
 pub fn verdict_on(alloc: Global, eq: &Equation) -> Result<Vec<u8>, Refusal>

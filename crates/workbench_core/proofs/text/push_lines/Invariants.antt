@@ -1,6 +1,6 @@
 use Rattle.std.proofs.Common.{◌≡◌, ◌++◌, take, List, ℕ}
-use Rattle.workbench_cli.specs.CheckText.{AreLines}
-use Rattle.workbench_cli.proofs.text.push_lines.Given as goal
+use Rattle.workbench_core.specs.CheckText.{AreLines}
+use Rattle.workbench_core.proofs.text.push_lines.Given as goal
 
 -- the lines of the node types so far were written
 abbrev pub invariant-loop-node : goal.invariant-loop-node

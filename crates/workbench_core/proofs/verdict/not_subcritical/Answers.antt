@@ -1,8 +1,8 @@
 use Rattle.std.proofs.Common.{◌∙◌, ap, Err}
-use Rattle.workbench_cli.specs.declared.refusal.Refusal.TheVariants.{NotSubcritical}
-use Rattle.workbench_cli.specs.Verdict.{node_text_in}
-use Rattle.workbench_cli.proofs.KernelRows.{failing_text}
-use Rattle.workbench_cli.proofs.verdict.not_subcritical.Goals as goal
+use Rattle.workbench_core.specs.declared.refusal.Refusal.TheVariants.{NotSubcritical}
+use Rattle.workbench_core.specs.Verdict.{node_text_in}
+use Rattle.workbench_core.proofs.KernelRows.{failing_text}
+use Rattle.workbench_core.proofs.verdict.not_subcritical.Goals as goal
 
 pub returns : goal.returns
 returns c =

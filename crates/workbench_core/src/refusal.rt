@@ -1,6 +1,6 @@
 // Why a file is refused.
 ghost use Rattle.std.specs.Prelude.{◌≡◌, IfOk, IfErr};
-ghost use Rattle.workbench_cli.specs.declared.refusal.Refusal.TheVariants.{Memory};
+ghost use Rattle.workbench_core.specs.declared.refusal.Refusal.TheVariants.{Memory};
 
 use equation_file::{FileRefusal, Reason, Which};
 use sqlite_items::Items;
@@ -56,7 +56,7 @@ impl<T: Drop> From<AllocFailed<T>> for Refusal {
 }
 
 impl Refusal {
-    ghost use Rattle.workbench_cli.specs.Refusals.{of_file, status_of};
+    ghost use Rattle.workbench_core.specs.Refusals.{of_file, status_of};
 
     /// The refusal of a file that writes down no equation.
     pub fn of_file(refusal: FileRefusal) -> Refusal

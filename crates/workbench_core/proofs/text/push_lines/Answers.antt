@@ -1,6 +1,6 @@
 use Rattle.std.proofs.Common.{◌++◌}
-use Rattle.workbench_cli.proofs.TextLemmas.{AreLines-next, written_after}
-use Rattle.workbench_cli.proofs.text.push_lines.Goals as goal
+use Rattle.workbench_core.proofs.TextLemmas.{AreLines-next, written_after}
+use Rattle.workbench_core.proofs.text.push_lines.Goals as goal
 
 pub loop-node-preserved : goal.loop-node-preserved
 loop-node-preserved c =

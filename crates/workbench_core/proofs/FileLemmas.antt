@@ -6,11 +6,11 @@ use Rattle.equation_document.specs.declared.fault.Which.TheVariants.{Bytes}
 use Rattle.equation_file.specs.declared.refusal.FileRefusal.{FileRefusal}
 use Rattle.equation_file.specs.declared.refusal.FileRefusal.TheVariants.{Limit}
 use Rattle.equation_file.specs.File.{equation_of}
-use Rattle.workbench_cli.specs.Check.{IsCheckedAs, IsChecked}
-use Rattle.workbench_cli.specs.Refusals.{of_file}
-use Rattle.workbench_cli.specs.Verdict.{IsVerdict}
-use Rattle.workbench_cli.specs.declared.refusal.Refusal.{Refusal}
-use Rattle.workbench_cli.specs.declared.refusal.Refusal.TheVariants.{Memory}
+use Rattle.workbench_core.specs.Check.{IsCheckedAs, IsChecked}
+use Rattle.workbench_core.specs.Refusals.{of_file}
+use Rattle.workbench_core.specs.Verdict.{IsVerdict}
+use Rattle.workbench_core.specs.declared.refusal.Refusal.{Refusal}
+use Rattle.workbench_core.specs.declared.refusal.Refusal.TheVariants.{Memory}
 
 pub checked_refusal : (file : List ℕ) (f : FileRefusal) → equation_of file ≡ Err f → IsChecked file (Err (of_file f))
 checked_refusal file f e = subst (λ read. IsCheckedAs read (Err (of_file f))) (sym e) refl

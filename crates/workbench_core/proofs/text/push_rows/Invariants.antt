@@ -1,6 +1,6 @@
 use Rattle.std.proofs.Common.{◌≡◌, ◌++◌, take, List, ℕ}
-use Rattle.workbench_cli.specs.CheckText.{AreRowTexts}
-use Rattle.workbench_cli.proofs.text.push_rows.Given as goal
+use Rattle.workbench_core.specs.CheckText.{AreRowTexts}
+use Rattle.workbench_core.proofs.text.push_rows.Given as goal
 
 -- the texts of the rows so far were written
 abbrev pub invariant-loop-row : goal.invariant-loop-row

@@ -5,7 +5,7 @@ ghost use Rattle.degree_numbers.specs.Types.{name_of};
 ghost use Rattle.equation_file.specs.Accepted.{IsEquation};
 ghost use Rattle.normal_rule.specs.Regularity.{IsMeasuredNode, AreMeasured};
 ghost use Rattle.normal_rule.specs.Text.{node_type_text, IsKnownNode, AreKnown};
-ghost use Rattle.workbench_cli.specs.CheckText.{line_text, sides_text, heading_text, IsSideText, IsLine, AreLines, IsRowText, AreRowTexts, IsCheckText};
+ghost use Rattle.workbench_core.specs.CheckText.{line_text, sides_text, heading_text, IsSideText, IsLine, AreLines, IsRowText, AreRowTexts, IsCheckText};
 
 use degree_numbers::{Degree, SmallText, TypeId, Types, print_degree};
 use equation_file::Equation;

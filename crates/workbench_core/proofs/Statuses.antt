@@ -1,8 +1,8 @@
 -- The statuses of refusals.
 use Rattle.std.proofs.Common.{◌≡◌, arith, refl}
-use Rattle.workbench_cli.specs.declared.refusal.Refusal.{Refusal}
-use Rattle.workbench_cli.specs.declared.refusal.Refusal.TheVariants.{FileFault, NotUtf8, NotToml, Malformed, Limit, NotSubcritical, RuleTooLarge, Memory}
-use Rattle.workbench_cli.specs.Refusals.{status_of}
+use Rattle.workbench_core.specs.declared.refusal.Refusal.{Refusal}
+use Rattle.workbench_core.specs.declared.refusal.Refusal.TheVariants.{FileFault, NotUtf8, NotToml, Malformed, Limit, NotSubcritical, RuleTooLarge, Memory}
+use Rattle.workbench_core.specs.Refusals.{status_of}
 
 pub status_3 : (r : Refusal) → status_of r ≡ 3 → r ≡ FileFault
 status_3 FileFault e = refl

@@ -1,6 +1,6 @@
 use Rattle.std.proofs.Common.{◌++◌}
-use Rattle.workbench_cli.proofs.TextLemmas.{AreRowTexts-next, written_after}
-use Rattle.workbench_cli.proofs.text.push_rows.Goals as goal
+use Rattle.workbench_core.proofs.TextLemmas.{AreRowTexts-next, written_after}
+use Rattle.workbench_core.proofs.text.push_rows.Goals as goal
 
 pub loop-row-preserved : goal.loop-row-preserved
 loop-row-preserved c =

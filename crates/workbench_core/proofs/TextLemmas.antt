@@ -4,7 +4,7 @@ use Rattle.std.proofs.lemmas.List.{take_more}
 use Rattle.equation_file.specs.declared.equation.Equation.{Equation}
 use Rattle.normal_rule.specs.declared.rule.NodeType.{NodeType}
 use Rattle.normal_rule.specs.declared.rule.RuleRow.{RuleRow}
-use Rattle.workbench_cli.specs.CheckText.{IsLine, AreLines, IsRowText, AreRowTexts}
+use Rattle.workbench_core.specs.CheckText.{IsLine, AreLines, IsRowText, AreRowTexts}
 
 -- written after what was there
 pub written_after : (start before piece now new : List ℕ) → now ≡ start ++ before → new ≡ now ++ piece → new ≡ start ++ (before ++ piece)

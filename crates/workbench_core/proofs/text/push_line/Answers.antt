@@ -1,8 +1,8 @@
 use Rattle.std.proofs.Common.{◌≡◌, ◌++◌, codes, rules, subst}
 use Rattle.normal_rule.specs.Text.{node_type_text}
-use Rattle.workbench_cli.specs.CheckText.{line_text, sides_text, IsSideText}
-use Rattle.workbench_cli.proofs.TextLemmas.{written_after}
-use Rattle.workbench_cli.proofs.text.push_line.Goals as goal
+use Rattle.workbench_core.specs.CheckText.{line_text, sides_text, IsSideText}
+use Rattle.workbench_core.proofs.TextLemmas.{written_after}
+use Rattle.workbench_core.proofs.text.push_line.Goals as goal
 
 pub returns : goal.returns
 returns c =

@@ -4,9 +4,9 @@ use Rattle.std.specs.Prelude.{◌≡◌, ℕ, List, Result, Ok, Err}
 use Rattle.equation_file.specs.declared.equation.Equation.{Equation}
 use Rattle.equation_file.specs.declared.refusal.FileRefusal.{FileRefusal}
 use Rattle.equation_file.specs.File.{equation_of}
-use Rattle.workbench_cli.specs.Refusals.{of_file}
-use Rattle.workbench_cli.specs.Verdict.{IsVerdict}
-use Rattle.workbench_cli.specs.declared.refusal.Refusal.{Refusal}
+use Rattle.workbench_core.specs.Refusals.{of_file}
+use Rattle.workbench_core.specs.Verdict.{IsVerdict}
+use Rattle.workbench_core.specs.declared.refusal.Refusal.{Refusal}
 
 abbrev pub IsCheckedAs : Result Equation FileRefusal → Result (List ℕ) Refusal → Type 0
 IsCheckedAs (Ok eq) r = IsVerdict eq r

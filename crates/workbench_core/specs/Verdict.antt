@@ -18,9 +18,9 @@ use Rattle.normal_rule.specs.Order.{empty_node}
 use Rattle.normal_rule.specs.Regularity.{IsSubcritical, IsGap, IsFirstFailure}
 use Rattle.normal_rule.specs.Rule.{IsNormalRule, node_count}
 use Rattle.normal_rule.specs.Text.{node_type_text}
-use Rattle.workbench_cli.specs.declared.refusal.Refusal.{Refusal}
-use Rattle.workbench_cli.specs.declared.refusal.Refusal.TheVariants.{NotSubcritical, RuleTooLarge}
-use Rattle.workbench_cli.specs.CheckText.{IsSideText, IsCheckText}
+use Rattle.workbench_core.specs.declared.refusal.Refusal.{Refusal}
+use Rattle.workbench_core.specs.declared.refusal.Refusal.TheVariants.{NotSubcritical, RuleTooLarge}
+use Rattle.workbench_core.specs.CheckText.{IsSideText, IsCheckText}
 
 pub record IsAccepted (eq : Equation) (rule : Rule) (r : Result (List ℕ) Refusal) : Type 0 where
   pub subcritical : IsSubcritical eq rule

@@ -1,0 +1,4 @@
+pub mod FileLemmas
+mod KernelRows
+pub mod Statuses
+mod TextLemmas

@@ -1,0 +1,4 @@
+pub mod Check
+pub mod CheckText
+pub mod Refusals
+pub mod Verdict
