@@ -29,7 +29,7 @@ IsAbove ty rule t es = IsIn es (additions_above ty rule t)
 join-none : (es : List EdgeLabel) → IsInLabelOrder es → join es [] ≡ es
 join-none es h = same_labels (join es []) es (join-nil-sorted es) h (λ z. omega (arith, count-join z es []))
 
-above-sorted : (ty : Types) (rule : Rule) (t : Plain) (es : List EdgeLabel) → IsAbove ty rule t es → IsInLabelOrder es
+pub above-sorted : (ty : Types) (rule : Rule) (t : Plain) (es : List EdgeLabel) → IsAbove ty rule t es → IsInLabelOrder es
 above-sorted ty rule (bare n) es h = elim h [ inl e ↦ subst IsInLabelOrder e (node_type-sorted (bare [])) | inr none ↦ absurd none ]
 above-sorted ty rule (graft k p c t) es h =
     let first = from_sums (additions_at ty rule k c) (sums (additions_above ty rule c) (additions_above ty rule t)) es h in
@@ -44,7 +44,7 @@ in_above ty rule k p c t a u v es h i j is =
     (in_sums (additions_above ty rule c) (additions_above ty rule t) u v i j))
 
 -- edge types that are put in order before they are put to others
-put_twice : (a b : List EdgeLabel) → IsInLabelOrder b → join (join a []) b ≡ join a b
+pub put_twice : (a b : List EdgeLabel) → IsInLabelOrder b → join (join a []) b ≡ join a b
 put_twice a b sorted = same-joins (join a []) a b sorted (λ z. omega (arith, count-join z a []))
 
 from_parts : (es a b x y : List EdgeLabel) → IsInLabelOrder b → es ≡ join x y → x ≡ join a [] → y ≡ b → es ≡ join a b
@@ -136,7 +136,7 @@ module _ (eq : Equation) (rule : Rule) (equation : IsEquation eq) (is_rule : IsR
       let option = in_flat_map (λ n. listed_option (without (labels n) es)) [] n.0 (nodes_of_kernel rule.rows k) n.1 (subst (λ o. IsIn [] (listed_option o)) (sym rest) (inl refl)) in
       subst (IsIn []) (sym (options-kernel eq rule equation is_rule k es (kernel_of_row eq rule equation is_rule k es h))) option
 
-  nil-at : (k : ℕ) (t : Plain) → IsAllowedAbove eq.types rule k t → IsIn [] (additions_at eq.types rule k t)
+  pub nil-at : (k : ℕ) (t : Plain) → IsAllowedAbove eq.types rule k t → IsIn [] (additions_at eq.types rule k t)
   nil-at k t h =
       in_flat_map (raisings (root_of t)) [] [] (options eq.types rule k (node_type_of t))
       (elim h [
@@ -145,7 +145,7 @@ module _ (eq : Equation) (rule : Rule) (equation : IsEquation eq) (is_rule : IsR
       ])
       (inl refl)
 
-  nil-above : (t : Plain) → ConformsAbove eq.types rule t → IsAbove eq.types rule t []
+  pub nil-above : (t : Plain) → ConformsAbove eq.types rule t → IsAbove eq.types rule t []
   nil-above (bare n) h = inl refl
   nil-above (graft k p c t) h = in_above eq.types rule k p c t [] [] [] [] (nil-at k c h.0) (nil-above c h.1) (nil-above t h.2) refl
 

@@ -7,6 +7,13 @@ pub mod Options
 pub mod Raisings
 pub mod RootTypes
 pub mod Rows
+pub mod StepsFound
+pub mod StepsKnown
+pub mod StepsLabels
+pub mod StepsLarge
+pub mod StepsNext
+pub mod StepsRows
+pub mod StepsWalk
 pub mod SumSets
 pub mod UnitSets
 pub mod Units

@@ -62,7 +62,7 @@ raised-sorted n (m ∷ ms) (r ∷ rs) h =
     (put.0, put.1, λ z. omega (arith, put.2 z, rest.2 z))
 
 -- what holds of each label of a list holds of each of a part
-all-part : (P : EdgeLabel → Type 0) (ns xs : List EdgeLabel) → IsSubMultiset ns xs → AllByRecursion P xs → AllByRecursion P ns
+pub all-part : (P : EdgeLabel → Type 0) (ns xs : List EdgeLabel) → IsSubMultiset ns xs → AllByRecursion P xs → AllByRecursion P ns
 all-part P [] xs h a = tt
 all-part P (n ∷ ns) [] h a = absurd h
 all-part P (n ∷ ns) (x ∷ xs) h a =
@@ -107,7 +107,7 @@ module _ (eq : Equation) (rule : Rule) (equation : IsEquation eq) (is_rule : IsR
   pub options-kernel : (k : ℕ) (es : List EdgeLabel) → kind_of eq.types k ≡ Some Kernel → options eq.types rule k es ≡ options_in (nodes_of_kernel rule.rows k) es
   options-kernel k es h = rw h refl
 
-  option-in_row : (k : ℕ) (t : Plain) (ms : List EdgeLabel) → IsIn ms (options_in (nodes_of_kernel rule.rows k) (node_type_of t)) → IsInKernelRow rule k (join ms (node_type_of t))
+  pub option-in_row : (k : ℕ) (t : Plain) (ms : List EdgeLabel) → IsIn ms (options_in (nodes_of_kernel rule.rows k) (node_type_of t)) → IsInKernelRow rule k (join ms (node_type_of t))
   option-in_row k t ms h =
       let n = from_flat_map (λ n. listed_option (without (labels n) (node_type_of t))) ms (nodes_of_kernel rule.rows k) h in
       let is = listed (without (labels n.0) (node_type_of t)) n.2 in

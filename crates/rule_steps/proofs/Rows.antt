@@ -75,7 +75,7 @@ row_is (r ∷ rows) a (suc n) row h (inr i) =
     rw apart (row_is rows (a + 1) n row rest i)
 
 module _ (eq : Equation) (rule : Rule) (equation : IsEquation eq) (is_rule : IsRule eq rule) where
-  numbers : map (λ (r : RuleRow). r.kernel.0) rule.rows ≡ range_with_len (noise_count eq.types) (length (kernels eq.types))
+  pub numbers : map (λ (r : RuleRow). r.kernel.0) rule.rows ≡ range_with_len (noise_count eq.types) (length (kernels eq.types))
   numbers =
       sym (map-map number (λ (r : RuleRow). r.kernel) rule.rows) ∙ ap (map number) is_rule.rows.kernels ∙ map-map number (λ (u : Unknown). u.kernel) eq.unknowns ∙ equation.kernels
 
