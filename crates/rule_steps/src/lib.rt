@@ -8,5 +8,7 @@ mod roots;
 mod sets;
 mod step;
 mod sums;
+#[cfg(test)]
+mod tests;
 
 pub use step::next_stage;
