@@ -1,5 +1,8 @@
 pub mod AboveSets
+pub mod AdditionSets
 pub mod Bumped
+pub mod BumpedSets
+pub mod ChoiceLists
 pub mod Inserted
 pub mod Made
 pub mod NodeSets

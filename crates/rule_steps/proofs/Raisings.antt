@@ -21,14 +21,14 @@ raising-is n (m ∷ ms) rs h =
     subst (IsRaised n (m ∷ ms)) rest.2 (shift.0, minus_of n shift.0, sym (plus-minus shift.0 n (in_below n shift.0 shift.1)), refl, refl, raising-is (minus_of n shift.0) ms rest.0 rest.1)
 
 -- a multiindex with as many entries as n, where it has fewer
-abbrev zeros : List ℕ → List ℕ
+abbrev pub zeros : List ℕ → List ℕ
 zeros [] = []
 zeros (x ∷ xs) = 0 ∷ zeros xs
 
 abbrev padded : List ℕ → List ℕ → List ℕ
 padded n x = plus_of (zeros n) x
 
-zeros-below : (n : List ℕ) → IsBelow (zeros n) n
+pub zeros-below : (n : List ℕ) → IsBelow (zeros n) n
 zeros-below [] = tt
 zeros-below (x ∷ xs) = (omega arith, zeros-below xs)
 

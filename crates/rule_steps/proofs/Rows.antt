@@ -39,7 +39,7 @@ abbrev number : TypeId → ℕ
 number k = k.0
 
 -- the row of a kernel
-in_rows : (rows : List RuleRow) (k : ℕ) (n : NodeType) → IsIn n (nodes_of_kernel rows k) → (row : RuleRow) × IsIn row rows × (row.kernel.0 ≡ k) × IsIn n row.nodes
+pub in_rows : (rows : List RuleRow) (k : ℕ) (n : NodeType) → IsIn n (nodes_of_kernel rows k) → (row : RuleRow) × IsIn row rows × (row.kernel.0 ≡ k) × IsIn n row.nodes
 in_rows [] k n h = absurd h
 in_rows (row ∷ rows) k n h = at (row.kernel.0 == k) refl h (in_rows rows k n)
   where

@@ -65,7 +65,7 @@ unit-split (suc d) (x ∷ xs) (s ∷ ss) (r ∷ rs) h e =
 abbrev pub HasDirection : ℕ → EdgeLabel → Type 0
 HasDirection d e = d < length e.1
 
-length-plus-left : (xs ys : List ℕ) → length xs ≤ length (plus_of xs ys)
+pub length-plus-left : (xs ys : List ℕ) → length xs ≤ length (plus_of xs ys)
 length-plus-left [] ys = omega arith
 length-plus-left (x ∷ xs) [] = omega arith
 length-plus-left (x ∷ xs) (y ∷ ys) = let rest = length-plus-left xs ys in omega (arith, rest)

@@ -1,3 +1,4 @@
+pub mod Choices
 pub mod Sets
 pub mod Steps
 pub mod Sums

@@ -2,6 +2,7 @@
 #![tactic(auto)]
 
 mod additions;
+mod choices;
 mod edges;
 mod raise;
 mod roots;

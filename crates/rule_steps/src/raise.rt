@@ -38,7 +38,7 @@ fn bumped(
 }
 
 /// Puts the node types behind others of which one edge type is raised by one in a direction.
-fn put_bumped(
+pub(crate) fn put_bumped(
     alloc: Global,
     node: &NodeType,
     direction: usize,
