@@ -1,7 +1,7 @@
 -- The rows of the next stage, one behind the other.
-use Rattle.std.proofs.Common.{◌≡◌, ℕ, zero, suc, ◌+◌, ◌<◌, ◌≤◌, List, [], ◌∷◌, ◌++◌, length, map, take, get_or, refl, sym, ap, ◌∙◌, subst, arith, inl, inr}
-use Rattle.std.specs.List.{range_with_len}
-use Rattle.std.proofs.lemmas.List.{take_more, map-append}
+use Rattle.std.proofs.Common.{◌≡◌, ℕ, ◌+◌, ◌<◌, ◌≤◌, List, [], ◌∷◌, ◌++◌, length, map, take, get_or, refl, sym, ap, ◌∙◌, subst, arith, inl, inr}
+use Rattle.std.specs.List.{range_with_len, take-map}
+use Rattle.std.proofs.lemmas.List.{take_more, take_all, map-append}
 use Rattle.std.proofs.lemmas.Simd.{map-map}
 use Rattle.degree_numbers.specs.declared.types.TypeId.{TypeId}
 use Rattle.degree_numbers.specs.Types.{noise_count, kernels}
@@ -30,18 +30,6 @@ count_both (row ∷ rows) others = omega (arith, count_both rows others)
 pub count_more : (rows next : List RuleRow) (k : TypeId) (ns : List NodeType) → next ≡ rows ++ row_made k ns ∷ [] → nodes_in next ≡ nodes_in rows + length ns
 count_more rows next k ns is = let both = count_both rows (row_made k ns ∷ []) in ap nodes_in is ∙ omega (arith, both)
 
-numbers_taken : (rows : List RuleRow) (i : ℕ) → kernel_numbers (take i rows) ≡ take i (kernel_numbers rows)
-numbers_taken [] zero = refl
-numbers_taken [] (suc i) = refl
-numbers_taken (row ∷ rows) zero = refl
-numbers_taken (row ∷ rows) (suc i) = ap (λ (l : List ℕ). row.kernel.0 ∷ l) (numbers_taken rows i)
-
-take_whole : (rows : List RuleRow) (i : ℕ) → length rows ≤ i → take i rows ≡ rows
-take_whole [] zero h = refl
-take_whole [] (suc i) h = refl
-take_whole (x ∷ rows) zero h = absurd (omega (arith, h))
-take_whole (x ∷ rows) (suc i) h = ap (λ (l : List RuleRow). x ∷ l) (take_whole rows i (omega (arith, h)))
-
 abbrev number : TypeId → ℕ
 number k = k.0
 
@@ -67,14 +55,14 @@ module _ (eq : Equation) (rule : Rule) where
       }
 
   pub rows_end : (i : ℕ) (rows : List RuleRow) → length rule.rows ≤ i → HasNextRows eq rule (take i rule.rows) rows → HasNextRows eq rule rule.rows rows
-  rows_end i rows end h = subst (λ (l : List RuleRow). HasNextRows eq rule l rows) (take_whole rule.rows i end) h
+  rows_end i rows end h = subst (λ (l : List RuleRow). HasNextRows eq rule l rows) (take_all i rule.rows end) h
 
   module _ (equation : IsEquation eq) (is_rule : IsRule eq rule) where
     rows_ascend : (i : ℕ) (rows : List RuleRow) → HasNextRows eq rule (take i rule.rows) rows → AreAscending (kernel_numbers rows)
     rows_ascend i rows h =
         let same : kernel_numbers rows ≡ kernel_numbers (take i rule.rows) = sym (map-map number kernel_at rows) ∙ ap (map number) h.kernels ∙ map-map number kernel_at (take i rule.rows) in
         let range = take_ascends i (range_with_len (noise_count eq.types) (length (kernels eq.types))) (range_ascends (noise_count eq.types) (length (kernels eq.types))) in
-        subst AreAscending (sym (same ∙ numbers_taken rule.rows i ∙ ap (take i) (numbers eq rule equation is_rule))) range
+        subst AreAscending (sym (same ∙ sym (take-map (λ (r : RuleRow). r.kernel.0) i rule.rows) ∙ ap (take i) (numbers eq rule equation is_rule))) range
 
     pub rows_many : (i : ℕ) (row : RuleRow) (ns : List NodeType) (rows : List RuleRow) (count : ℕ) → i < length rule.rows → row ≡ get_or rule.rows i row → HasNextRows eq rule (take i rule.rows) rows →
         IsSetOf (IsInNext eq rule row.kernel.0) ns → count ≡ nodes_in rows → 2000 < count + length ns → HasTooLargeNext eq rule

@@ -1,6 +1,7 @@
 -- The node types of a row of the next stage, tree by tree.
-use Rattle.std.proofs.Common.{◌≡◌, ℕ, zero, suc, ◌+◌, ◌<◌, ◌≤◌, List, [], ◌∷◌, ◌++◌, length, take, get_or, refl, sym, ap, ◌∙◌, subst, arith, inl, inr, Some}
-use Rattle.std.proofs.lemmas.List.{take_more, map-append}
+use Rattle.std.proofs.Common.{◌≡◌, ℕ, zero, suc, ◌+◌, ◌<◌, ◌≤◌, List, [], ◌∷◌, ◌++◌, length, take, get_or, refl, sym, ap, ◌∙◌, subst, inl, inr, Some}
+use Rattle.std.proofs.lemmas.List.{take_more, take_all, map-append}
+use Rattle.std.specs.List.{take-map}
 use Rattle.degree_numbers.specs.declared.types.Kind.TheVariants.{Kernel}
 use Rattle.degree_numbers.specs.Types.{kind_of}
 use Rattle.equation_file.specs.declared.equation.Equation.{Equation}
@@ -29,18 +30,6 @@ from_take [] zero x h = absurd h
 from_take [] (suc i) x h = absurd h
 from_take (y ∷ ys) zero x h = absurd h
 from_take (y ∷ ys) (suc i) x h = elim h [ inl e ↦ inl e | inr r ↦ inr (from_take ys i x r) ]
-
-take_map : (c : Content) (ids : List TreeId) (i : ℕ) → trees_of c (take i ids) ≡ take i (trees_of c ids)
-take_map c [] zero = refl
-take_map c [] (suc i) = refl
-take_map c (x ∷ ids) zero = refl
-take_map c (x ∷ ids) (suc i) = ap (λ (l : List Plain). tree_at c x.0 ∷ l) (take_map c ids i)
-
-take_whole : (ids : List TreeId) (i : ℕ) → length ids ≤ i → take i ids ≡ ids
-take_whole [] zero h = refl
-take_whole [] (suc i) h = refl
-take_whole (x ∷ ids) zero h = absurd (omega (arith, h))
-take_whole (x ∷ ids) (suc i) h = ap (λ (l : List TreeId). x ∷ l) (take_whole ids i (omega (arith, h)))
 
 found_put : (eq : Equation) (rule : Rule) (k : ℕ) (ts : List Plain) (t : Plain) (keys ns : List NodeType) → IsSetOf (IsFound eq rule k ts) keys → IsSetOf (IsMadeOf eq.types rule k t) ns →
     IsSetOf (IsFound eq rule k (ts ++ t ∷ [])) (insert_all node_order keys ns)
@@ -92,7 +81,7 @@ module _ (eq : Equation) (rule : Rule) (equation : IsEquation eq) (is_rule : IsR
     found_sound ts among es f = found_is eq rule equation is_rule row.kernel.0 ts es kernel_kind (λ t i. whole.listed t (among t i)) f
 
     among_taken : (i : ℕ) (t : Plain) → IsIn t (trees_of c (take i ids)) → IsIn t (trees_of c ids)
-    among_taken i t h = from_take (trees_of c ids) i t (subst (IsIn t) (take_map c ids i) h)
+    among_taken i t h = from_take (trees_of c ids) i t (subst (IsIn t) (sym (take-map (λ (x : TreeId). tree_at c x.0) i ids)) h)
 
     one_more : (i : ℕ) (id : TreeId) → i < length ids → id ≡ get_or ids i id → trees_of c (take (i + 1) ids) ≡ trees_of c (take i ids) ++ tree_at c id.0 ∷ []
     one_more i id lt is =
@@ -109,7 +98,7 @@ module _ (eq : Equation) (rule : Rule) (equation : IsEquation eq) (is_rule : IsR
     pub found_last : (i : ℕ) (keys : List NodeType) → length ids ≤ i → IsSetOf (IsFound eq rule row.kernel.0 (trees_of c (take i ids))) keys → IsSetOf (IsInNext eq rule row.kernel.0) keys
     found_last i keys end h =
         set_by (IsFound eq rule row.kernel.0 (trees_of c ids)) (IsInNext eq rule row.kernel.0) keys (found_sound (trees_of c ids) (λ t j. j)) (λ es n. next_is_found eq rule equation is_rule row.kernel.0 (trees_of c ids) es whole n)
-        (subst (λ (l : List TreeId). IsSetOf (IsFound eq rule row.kernel.0 (trees_of c l)) keys) (take_whole ids i end) h)
+        (subst (λ (l : List TreeId). IsSetOf (IsFound eq rule row.kernel.0 (trees_of c l)) keys) (take_all i ids end) h)
 
     -- more than 2,000 on the way
     pub many_first : (nodes copies keys : List NodeType) → nodes ≡ row.nodes → copies ≡ nodes → keys ≡ [] → 2000 < length (insert_all node_order keys copies) → HasMany (IsInNext eq rule row.kernel.0)
