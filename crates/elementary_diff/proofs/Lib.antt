@@ -1,10 +1,15 @@
 pub mod Drawings
 pub mod FactorWalks
 pub mod FurtherSteps
+pub mod GivenDenominators
+pub mod KernelCounts
+pub mod KnownSymbols
 pub mod Masses
 pub mod NodeWalks
+pub mod ProductSteps
 pub mod Repeats
 pub mod RootEdges
 pub mod Rooms
 pub mod SymmetryLaws
 pub mod TotalLaws
+pub mod ZeroMass

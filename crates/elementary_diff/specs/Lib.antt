@@ -1,7 +1,11 @@
 pub mod Differentials
+pub mod Known
 pub mod Low
 pub mod Masses
 pub mod Orders
 pub mod Places
+pub mod Refusals
 pub mod Room
+pub mod Siblings
 pub mod Symmetry
+pub mod Within

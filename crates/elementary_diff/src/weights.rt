@@ -29,7 +29,7 @@ fn variable_count(symbols: &[Symbol]) -> usize
     count
 }
 
-fn power(base: Saturated, exponent: u32) -> Saturated
+pub(crate) fn power(base: Saturated, exponent: u32) -> Saturated
     ensures { result ≡ saturated (base ^ exponent) }
 {
     let mut power = Saturated::of(1);

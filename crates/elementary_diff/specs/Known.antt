@@ -1,0 +1,20 @@
+-- Symbols of an equation.
+--   IsKnown ty ps s == s is one of the parameters ps, a noise, or a variable whose derivative is in the directions of the scaling
+--   AreKnown ty ps ts == the symbols of the terms are
+use Rattle.std.specs.Prelude.{◌≡◌, ℕ, ◌≤◌, ◌<◌, List, length, slice_index, Some}
+use Rattle.std.specs.List.{AllByRecursion}
+use Rattle.degree_numbers.specs.declared.Types.{Types}
+use Rattle.degree_numbers.specs.declared.Kind.TheVariants.{Noise, Kernel}
+use Rattle.degree_numbers.specs.Types.{kind_of}
+use Rattle.symbol_polys.specs.Symbols.{PlainSymbol, parameter, variable, noise}
+use Rattle.symbol_polys.specs.Polynomials.{PlainTerm}
+
+abbrev pub IsKnown : Types → List (List ℕ) → PlainSymbol → Type 0
+IsKnown ty ps (parameter i) = i < length ps
+IsKnown ty ps (variable k m) = (kind_of ty k ≡ Some Kernel) × ((i : ℕ) → ty.dims ≤ i → slice_index m i ≡ 0)
+IsKnown ty ps (noise k) = kind_of ty k ≡ Some Noise
+IsKnown ty ps (Rattle.symbol_polys.specs.Symbols.tree t) = ⊥
+IsKnown ty ps (Rattle.symbol_polys.specs.Symbols.expectation t) = ⊥
+
+abbrev pub AreKnown : Types → List (List ℕ) → List PlainTerm → Type 0
+AreKnown ty ps ts = AllByRecursion (λ t. AllByRecursion (IsKnown ty ps) t.symbols) ts
