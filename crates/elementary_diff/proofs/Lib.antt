@@ -4,12 +4,14 @@ pub mod FurtherSteps
 pub mod GivenDenominators
 pub mod KernelCounts
 pub mod KnownSymbols
+pub mod LowSides
 pub mod Masses
 pub mod NodeWalks
 pub mod ProductSteps
 pub mod Repeats
-pub mod RootEdges
 pub mod Rooms
+pub mod RootEdges
+pub mod RootPolynomials
 pub mod SymmetryLaws
 pub mod TotalLaws
 pub mod ZeroMass

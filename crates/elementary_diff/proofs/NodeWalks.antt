@@ -108,8 +108,8 @@ pub power-step : (b n p : ℕ) → p ≡ saturated (b ^ n) → saturating_times 
 power-step b n p h =
     ap (λ (x : ℕ). saturated (x * b)) h ∙ saturated_mul_left (b ^ n) b ∙ ap saturated (sym (pow-suc b n) ∙ ap (λ (k : ℕ). b ^ k) (omega arith))
 
-pub root-fits : (c : Content) (n : List ℕ) (es : List EdgeTo) → decoration_sum_of (tree_over c.trees n es) ≤ 4096 → sum n < 2147483648
-root-fits c n es h =
+pub root-few : (c : Content) (n : List ℕ) (es : List EdgeTo) → decoration_sum_of (tree_over c.trees n es) ≤ 4096 → sum n ≤ 4096
+root-few c n es h =
     let most = root-sum (tree_over c.trees n es) in
     let same : sum (root_of (tree_over c.trees n es)) ≡ sum n = ap (λ (xs : List ℕ). sum xs) (root_of-grafted n (map (edge_over c.trees) es)) in
     omega (arith, h, most, same)

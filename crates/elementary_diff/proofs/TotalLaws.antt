@@ -73,18 +73,18 @@ is_monomial-rest s m h = record { ascending = sorted-rest symbol_order symbol_or
 pub low-rest : (b : ℕ) (s : PlainSymbol) (m : List PlainSymbol) → IsLowMonomial b (s ∷ m) → IsLowMonomial b m
 low-rest b s m h = record { monomial = is_monomial-rest s m h.monomial; low = h.low.1 }
 
-higher : (b : ℕ) (xs : List ℕ) → AreAtMost b xs → AreAtMost (suc b) xs
-higher b [] h = tt
-higher b (x ∷ xs) h = (omega (arith, h.0), higher b xs h.1)
+at-most-more : (b c : ℕ) (xs : List ℕ) → b ≤ c → AreAtMost b xs → AreAtMost c xs
+at-most-more b c [] h a = tt
+at-most-more b c (x ∷ xs) h a = (omega (arith, h, a.0), at-most-more b c xs h a.1)
 
 more-low : (b d : ℕ) (xs : List ℕ) → AreAtMost b xs → AreAtMost (suc b) (one_more d xs)
 more-low b d [] h = tt
-more-low b zero (x ∷ xs) h = (omega (arith, h.0), higher b xs h.1)
+more-low b zero (x ∷ xs) h = (omega (arith, h.0), at-most-more b (suc b) xs (omega arith) h.1)
 more-low b (suc d) (x ∷ xs) h = (omega (arith, h.0), more-low b d xs h.1)
 
-all-higher : (b : ℕ) (m : List PlainSymbol) → AllByRecursion (IsLow b) m → AllByRecursion (IsLow (suc b)) m
-all-higher b [] h = tt
-all-higher b (s ∷ m) h = (higher b (multiindex_in s) h.0, all-higher b m h.1)
+symbols-more : (b c : ℕ) (m : List PlainSymbol) → b ≤ c → AllByRecursion (IsLow b) m → AllByRecursion (IsLow c) m
+symbols-more b c [] h a = tt
+symbols-more b c (s ∷ m) h a = (at-most-more b c (multiindex_in s) h a.0, symbols-more b c m h a.1)
 
 low-with : (b : ℕ) (s : PlainSymbol) (m : List PlainSymbol) → HasBoundedTree s → IsLow b s → IsLowMonomial b m → IsLowMonomial b (with_symbol s m)
 low-with b s m t l h = record { monomial = is_monomial-with s m t h.monomial; low = all-monomial_product (IsLow b) (s ∷ []) m (l, tt) h.low }
@@ -111,8 +111,8 @@ pub low-further : (b d : ℕ) (m : List PlainSymbol) → IsLowMonomial b m → A
 low-further b d [] h = tt
 low-further b d (s ∷ m) h =
     low-append (suc b) (map (λ r. with_symbol r m) (further_symbol d s)) (map (with_symbol s) (further d m))
-    (low-own b d s m h.low.0 (record { monomial = is_monomial-rest s m h.monomial; low = all-higher b m h.low.1 }))
-    (low-each (suc b) s (further d m) h.monomial.trees.0 (higher b (multiindex_in s) h.low.0) (low-further b d m (low-rest b s m h)))
+    (low-own b d s m h.low.0 (record { monomial = is_monomial-rest s m h.monomial; low = symbols-more b (suc b) m (omega arith) h.low.1 }))
+    (low-each (suc b) s (further d m) h.monomial.trees.0 (at-most-more b (suc b) (multiindex_in s) (omega arith) h.low.0) (low-further b d m (low-rest b s m h)))
 
 monomials-with : (c : ℤ) (ms : List (List PlainSymbol)) → monomials (with_coefficient c ms) ≡ ms
 monomials-with c [] = refl
@@ -136,6 +136,10 @@ low-monomials b (m ∷ ms) h = (h.0.monomial, low-monomials b ms h.1)
 
 pub are_monomials : (b : ℕ) (ts : List PlainTerm) → AreLow b ts → AllByRecursion IsMonomial (monomials ts)
 are_monomials b ts h = low-monomials b (monomials ts) h
+
+pub low-more : (b c : ℕ) (ts : List PlainTerm) → b ≤ c → AreLow b ts → AreLow c ts
+low-more b c [] h a = tt
+low-more b c (t ∷ ts) h a = (record { monomial = a.0.monomial; low = symbols-more b c t.symbols h a.0.low }, low-more b c ts h a.1)
 
 -- one step of the recursion
 times-with : (s : PlainSymbol) (c : ℤ) (ms : List (List PlainSymbol)) → map (times_symbol s) (with_coefficient c ms) ≡ with_coefficient c (map (with_symbol s) ms)

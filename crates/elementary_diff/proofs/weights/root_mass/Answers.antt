@@ -1,4 +1,4 @@
-use Rattle.std.proofs.Common.{ℕ, List, sum, ap, sym, ◌∙◌}
+use Rattle.std.proofs.Common.{ℕ, List, sum, ap, sym, ◌∙◌, arith}
 use Rattle.exact_sums.specs.Saturating.{saturated}
 use Rattle.tree_pool.specs.Content.{tree_at}
 use Rattle.tree_pool.proofs.Walks.{root_at}
@@ -7,11 +7,11 @@ use Rattle.symbol_polys.specs.View.{terms_of}
 use Rattle.symbol_polys.specs.declared.Term.{Term}
 use Rattle.elementary_diff.specs.Differentials.{by_edges, noise_free, right_terms}
 use Rattle.elementary_diff.specs.Masses.{weight}
-use Rattle.elementary_diff.proofs.NodeWalks.{root-fits}
+use Rattle.elementary_diff.proofs.NodeWalks.{root-few}
 use Rattle.elementary_diff.proofs.weights.root_mass.Goals as goal
 
 pub total-requires : goal.total-requires
-total-requires c = root-fits c.args.pool.now c.node.result.0.entries c.node.result.1.now c.node.ensures.kept.small.decorations
+total-requires c = omega (arith, root-few c.args.pool.now c.node.result.0.entries c.node.result.1.now c.node.ensures.kept.small.decorations)
 
 pub returns-clause-value : goal.returns-clause-value
 returns-clause-value c =
