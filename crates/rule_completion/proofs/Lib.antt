@@ -1,0 +1,5 @@
+mod Counted
+mod Entries
+mod Faults
+mod Stages
+mod Within

@@ -1,5 +1,5 @@
 // The completion.
-ghost use Rattle.std.specs.Prelude.{◌≡◌, ◌<◌, ℕ, ℤ, length, IfOk, IfErr};
+ghost use Rattle.std.specs.Prelude.{◌≡◌, ◌<◌, ℕ, ℤ, length, unwrap_or, IfOk, IfErr};
 ghost use Rattle.std.specs.List.{All};
 ghost use Rattle.std.specs.Option.{option_map};
 ghost use Rattle.std.specs.declared.option.Option.TheVariants.{Some};
@@ -18,9 +18,11 @@ ghost use Rattle.rule_completion.specs.declared.refusal.StageFault.{StageFault};
 ghost use Rattle.rule_completion.specs.Reached.{IsReached, IsStageFault};
 
 use crate::refusal::StageRefusal;
+use crate::stage::{list_stage, node_type_count, stage_after};
 use equation_file::Equation;
 use normal_rule::Rule;
 use std::alloc::Global;
+use tree_budgets::normal_rule_is_rule;
 use tree_listing::Listing;
 use tree_pool::Pool;
 
@@ -31,6 +33,16 @@ pub struct Completion {
     /// From 0.
     pub stage: u32,
     pub listing: Listing,
+}
+
+// The rule of a stage: that of stage 0 is the base.
+fn rule_of<'r>(base: &'r Rule, reached: &'r Option<Rule>) -> &'r Rule
+    ensures { result.now ≡ unwrap_or reached.now base.now }
+{
+    match reached {
+        Some(rule) => rule,
+        None => base,
+    }
 }
 
 /// The completion of the normal rule of an equation (after Bruned, Hairer and Zambotti), for which the inequality of regularities holds: stage 0 is the rule, and
@@ -60,5 +72,22 @@ pub fn complete<'a>(
     ensures refused { IfErr result (λ e. (j : ℕ) (what : StageFault) → e ≡ StageRefusal.Stage j what → IsStageFault eq.now base.now j what) }
     ensures grown { IsGrown pool.old pool.new }
 {
-    Err(StageRefusal::Memory)
+    normal_rule_is_rule(eq, base);
+    let mut stage = 0;
+    let mut reached: Option<Rule> = None;
+    loop {
+        let rule = rule_of(base, &reached);
+        let listing = list_stage(alloc, eq, rule, stage, pool)?;
+        let next = stage_after(alloc, eq, rule, stage, pool, listing.trees.as_slice())?;
+        // the next stage holds the rule, and is the rule where it has no more node types
+        if node_type_count(&next) == node_type_count(rule) {
+            return Ok(Completion {
+                rule: next,
+                stage,
+                listing,
+            });
+        }
+        reached = Some(next);
+        stage += 1;
+    }
 }

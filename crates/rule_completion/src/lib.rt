@@ -3,6 +3,7 @@
 
 mod completion;
 mod refusal;
+mod stage;
 
 pub use completion::{Completion, complete};
 pub use refusal::{StageFault, StageRefusal};
