@@ -1,0 +1,6 @@
+//! Examples of elementary differentials.
+#![tactic(auto)]
+
+mod rows;
+
+pub use rows::rows_law;
