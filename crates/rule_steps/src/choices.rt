@@ -1,10 +1,11 @@
 // What can be added to the edge types at a node.
-ghost use Rattle.std.specs.Prelude.{◌≡◌, ◌++◌, [], ◌∷◌, map, IfOk, OnOk};
+ghost use Rattle.std.specs.Prelude.{◌≡◌, ◌++◌, map, IfOk, OnOk};
 ghost use Rattle.std.specs.Option.{option_map, is_some};
 ghost use Rattle.conforming_trees.specs.Conforming.{label, labels};
 ghost use Rattle.rule_steps.specs.Choices.{after};
 ghost use Rattle.rule_steps.specs.Sums.{without, nodes_of_kernel, listed_option, options_in, options};
 
+use crate::sets::empty_alone;
 use degree_numbers::{Kind, TypeId, Types};
 use normal_rule::{EdgeType, NodeType, Rule};
 use sqlite_items::Items;
@@ -79,7 +80,7 @@ fn left_over(
     }))
 }
 
-/// Puts what is left of a node type without edge types behind others, where these all stand there.
+/// Puts what is left of a node type without edge types behind others, where these edge types all stand there. Fails only for want of memory.
 fn put_left_over(
     alloc: Global,
     node: &NodeType,
@@ -94,8 +95,8 @@ fn put_left_over(
     Ok(())
 }
 
-/// What can be added to edge types so that they are one of some node types.
-fn options_in(
+/// What can be added to edge types so that they are one of some node types. Fails only for want of memory.
+pub(crate) fn options_in(
     alloc: Global,
     nodes: &[NodeType],
     edges: &[EdgeType],
@@ -106,15 +107,6 @@ fn options_in(
     for node in nodes {
         put_left_over(alloc, node, edges, &mut found)?;
     }
-    Ok(found)
-}
-
-/// The empty list of edge types alone.
-fn nothing(alloc: Global) -> Result<Vec<NodeType>, AllocError>
-    ensures { IfOk result (λ v. map labels v.items ≡ [] ∷ []) }
-{
-    let mut found = Vec::new(alloc);
-    found.push(NodeType::empty(alloc))?;
     Ok(found)
 }
 
@@ -131,7 +123,7 @@ pub(crate) fn options(
     match types.list.get(kind.0 as usize) {
         None => Ok(Vec::new(alloc)),
         Some(entry) => match entry.kind {
-            Kind::Noise => nothing(alloc),
+            Kind::Noise => empty_alone(alloc),
             Kind::Kernel => options_in(alloc, row_of(rule, kind), edges),
         },
     }

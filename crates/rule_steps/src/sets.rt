@@ -1,15 +1,24 @@
 // Sets of node types.
-ghost use Rattle.std.specs.Prelude.{◌≡◌, ◌<◌, ◌≤◌, length, IfErr, OnOk};
+ghost use Rattle.std.specs.Prelude.{◌≡◌, ◌<◌, ◌≤◌, [], ◌∷◌, length, IfOk, IfErr, OnOk};
 ghost use Rattle.ordered_lists.specs.Members.{insert_all};
-ghost use Rattle.normal_rule.specs.Order.{node_order};
+ghost use Rattle.normal_rule.specs.Order.{node_order, empty_node};
 ghost use Rattle.normal_rule.specs.declared.rule.RuleRefusal.TheVariants.{RuleTooLarge};
 
 use normal_rule::{NodeType, RuleRefusal};
-use std::alloc::AllocError;
+use std::alloc::{AllocError, Global};
 use std::collections::BTreeSet;
 
 /// The greatest number of node types that a rule has.
 pub(crate) const MOST_NODE_TYPES: usize = 2000;
+
+/// The empty node type alone. Fails only for want of memory.
+pub(crate) fn empty_alone(alloc: Global) -> Result<Vec<NodeType>, AllocError>
+    ensures { IfOk result (λ v. v.items ≡ empty_node ∷ []) }
+{
+    let mut nodes = Vec::new(alloc);
+    nodes.push(NodeType::empty(alloc))?;
+    Ok(nodes)
+}
 
 /// Puts node types into a set. Fails only for want of memory.
 fn put_all(nodes: Vec<NodeType>, into: &mut BTreeSet<NodeType>) -> Result<(), AllocError>

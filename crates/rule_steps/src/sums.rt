@@ -1,10 +1,9 @@
 // What can be added at the nodes of a tree together.
-ghost use Rattle.std.specs.Prelude.{◌≡◌, ◌<◌, ◌^◌, [], ◌∷◌, length, map, IfOk, IfErr};
+ghost use Rattle.std.specs.Prelude.{◌≡◌, ◌<◌, ◌^◌, length, map, IfOk, IfErr};
 ghost use Rattle.equation_file.specs.Accepted.{IsEquation};
 ghost use Rattle.ordered_lists.specs.Members.{IsIn};
 ghost use Rattle.tree_pool.specs.Content.{tree_at};
 ghost use Rattle.normal_rule.specs.declared.rule.RuleRefusal.TheVariants.{RuleTooLarge};
-ghost use Rattle.normal_rule.specs.Order.{empty_node};
 ghost use Rattle.conforming_trees.specs.Conforming.{labels, IsRule, ConformsAbove};
 ghost use Rattle.rule_stages.specs.Stages.{join};
 ghost use Rattle.rule_steps.specs.Sets.{IsSetOf, HasMany, IsSumOf, IsSmallRule};
@@ -12,7 +11,7 @@ ghost use Rattle.rule_steps.specs.Sums.{additions_above};
 
 use crate::edges::joined;
 use crate::roots::additions_at_root;
-use crate::sets::put_few;
+use crate::sets::{empty_alone, put_few};
 use equation_file::Equation;
 use normal_rule::{NodeType, Rule, RuleRefusal};
 use std::alloc::{AllocError, Global};
@@ -44,15 +43,6 @@ pub(crate) fn sums(
         put_few(with_each(alloc, x, ys)?, &mut all)?;
     }
     Ok(all.into_iter().collect(alloc)?)
-}
-
-/// The empty node type alone. Fails only for want of memory.
-fn empty_alone(alloc: Global) -> Result<Vec<NodeType>, AllocError>
-    ensures { IfOk result (λ v. v.items ≡ empty_node ∷ []) }
-{
-    let mut nodes = Vec::new(alloc);
-    nodes.push(NodeType::empty(alloc))?;
-    Ok(nodes)
 }
 
 /// All additions above the root of a tree of the pool, together. Fails with `RuleTooLarge` only where that are more than 2,000, and for want of memory.

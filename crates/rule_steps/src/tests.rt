@@ -1,3 +1,4 @@
+use crate::choices::options_in;
 use crate::sums::sums;
 use degree_numbers::{Multi, TypeId};
 use normal_rule::{EdgeType, NodeType, RuleRefusal};
@@ -54,6 +55,18 @@ fn count_of_products(alloc: Global, m: usize, n: usize) -> Result<usize, RuleRef
     Ok(sums(alloc, us.as_slice(), xs.as_slice())?.len())
 }
 
+// Whether these are what can be added to edge types where nothing, X, U, X with U and U with U are allowed.
+fn are_options(
+    alloc: Global,
+    edges: &[EdgeType],
+    want: &[&[EdgeType]],
+) -> Result<bool, AllocError> {
+    let allowed = nodes(alloc, &[&[], &[X], &[U], &[X, U], &[U, U]])?;
+    let want = nodes(alloc, want)?;
+    let found = options_in(alloc, allowed.as_slice(), edges)?;
+    Ok(found.as_slice() == want.as_slice())
+}
+
 #[test]
 fn each_sum_stands_once_and_in_order(rt: HostRuntime) {
     let alloc = rt.alloc();
@@ -81,4 +94,16 @@ fn more_than_two_thousand_sums_are_too_many(rt: HostRuntime) {
     ] {
         assert_eq!(rt; count_of_products(rt.alloc(), m, n), count);
     }
+}
+
+#[test]
+fn options_are_what_node_types_have_beside_the_edges(rt: HostRuntime) {
+    let alloc = rt.alloc();
+    assert_eq!(rt;
+        are_options(alloc, &[], &[&[], &[X], &[U], &[X, U], &[U, U]]),
+        Ok(true)
+    );
+    assert_eq!(rt; are_options(alloc, &[U], &[&[], &[X], &[U]]), Ok(true));
+    assert_eq!(rt; are_options(alloc, &[X, U], &[&[]]), Ok(true));
+    assert_eq!(rt; are_options(alloc, &[X, X], &[]), Ok(true));
 }
