@@ -1,6 +1,13 @@
 //! Listings of normal rules: equations that people know, and rules at the bounds.
 #![tactic(auto)]
 
+#[cfg(test)]
+mod direct;
+#[cfg(test)]
+mod every_small_tree;
+#[cfg(test)]
+mod rows;
+
 ghost use Rattle.std.specs.Prelude.{◌≡◌, ◌<◌, length};
 ghost use Rattle.std.specs.List.{All};
 ghost use Rattle.std.specs.declared.option.Option.TheVariants.{Some};
