@@ -1,11 +1,14 @@
-//! Examples of symmetry factors, vanishing trees and pairings.
+//! Examples of symmetry factors, elementary differentials, vanishing trees and pairings.
 #![tactic(auto)]
+
+mod differentials;
 
 ghost use Rattle.std.specs.Prelude.{◌≡◌, ◌<◌, length, IfSome};
 ghost use Rattle.degree_numbers.specs.Types.{AreTypes};
 
 use bumpalo::Bump;
 use degree_numbers::Types;
+pub use differentials::{are_terms, differential_of_text};
 use elementary_diff::symmetry;
 use gaussian_pairings::{Pairing, PairingError, pairings, vanishes};
 use plain_trees::read_tree;
