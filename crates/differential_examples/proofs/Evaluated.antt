@@ -20,7 +20,7 @@ pub kpz_are : (a : ℤ) → AreRows (kpz_equation a) kpz_rows
 kpz_are a = all_collected (kpz_equation a) kpz_rows (refl, (refl, (refl, (refl, (refl, (refl, (refl, (refl, (refl, tt)))))))))
 
 pub derivatives_are : (a : ℤ) → AreRows (kpz_equation a) derivative_rows
-derivatives_are a = all_collected (kpz_equation a) derivative_rows (refl, (refl, (refl, (refl, (refl, tt)))))
+derivatives_are a = all_collected (kpz_equation a) derivative_rows (refl, (refl, (refl, (refl, (refl, (refl, tt))))))
 
 pub phi43_are : (a : ℤ) → AreRows (phi43_equation a) phi43_rows
 phi43_are a = all_collected (phi43_equation a) phi43_rows (refl, (refl, (refl, tt)))

@@ -1,4 +1,5 @@
 -- Elementary differentials that are worked out by hand.
+--   multi a b == the multiindex with a in the first direction and b in the second
 --   none, space n == the multiindex 0, and the one with n in the second direction
 --   xi_and t == t with one more edge, of the noise
 --   edge_and p c t == t with one more edge, of the unknown's kernel, with the derivative decoration p and the tree c above it
@@ -19,11 +20,14 @@ use Rattle.symbol_polys.specs.Symbols.{variable}
 use Rattle.symbol_polys.specs.Polynomials.{PlainTerm, HaveSameCoefficients}
 use Rattle.elementary_diff.specs.Differentials.{differential_terms}
 
+abbrev pub multi : ℕ → ℕ → List ℕ
+multi a b = a ∷ b ∷ 0 ∷ 0 ∷ 0 ∷ []
+
 abbrev pub none : List ℕ
-none = 0 ∷ 0 ∷ 0 ∷ 0 ∷ 0 ∷ []
+none = multi 0 0
 
 abbrev pub space : ℕ → List ℕ
-space n = 0 ∷ n ∷ 0 ∷ 0 ∷ 0 ∷ []
+space n = multi 0 n
 
 abbrev pub xi_and : Plain → Plain
 xi_and t = graft 0 none (bare none) t
@@ -69,12 +73,13 @@ kpz_rows =
     ∷ (v_and (edge_and (space 1) (v_and (bare none)) (bare none)), variables (pos 4) (space 1 ∷ []) ∷ [])
     ∷ []
 
--- [], [X(0,1)], [X(0,2)], [X(0,2)*v], [X(0,1)*xi*v]
+-- [], [X(0,1)], [X(0,2)], [X(1,1)], [X(0,2)*v], [X(0,1)*xi*v]
 abbrev pub derivative_rows : List (Plain × List PlainTerm)
 derivative_rows =
     (bare none, variables (pos 1) (space 1 ∷ space 1 ∷ []) ∷ [])
     ∷ (bare (space 1), variables (pos 2) (space 1 ∷ space 2 ∷ []) ∷ [])
     ∷ (bare (space 2), variables (pos 2) (space 1 ∷ space 3 ∷ []) ∷ variables (pos 2) (space 2 ∷ space 2 ∷ []) ∷ [])
+    ∷ (bare (multi 1 1), variables (pos 2) (space 1 ∷ multi 1 2 ∷ []) ∷ variables (pos 2) (space 2 ∷ multi 1 1 ∷ []) ∷ [])
     ∷ (v_and (bare (space 2)), variables (pos 2) (space 3 ∷ []) ∷ [])
     ∷ (xi_and (v_and (bare (space 1))), [])
     ∷ []
