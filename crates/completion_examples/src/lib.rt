@@ -1,0 +1,211 @@
+//! Completions of normal rules: equations that people know, and rules at the bounds.
+#![tactic(auto)]
+
+ghost use Rattle.std.specs.Prelude.{◌≡◌};
+ghost use Rattle.std.specs.List.{All};
+ghost use Rattle.degree_numbers.specs.Types.{AreTypes};
+ghost use Rattle.equation_file.specs.Accepted.{IsEquation};
+ghost use Rattle.normal_rule.specs.Regularity.{IsSubcritical};
+ghost use Rattle.normal_rule.specs.Rule.{IsNormalRule};
+ghost use Rattle.normal_rule.specs.Text.{IsKnownNode, AreKnown};
+
+use bumpalo::Bump;
+use degree_numbers::Types;
+use equation_file::{Equation, read_equation};
+use normal_rule::{Rule, RuleRow, check_regularity, normal_rule, put_node_type};
+use rule_completion::{Completion, StageFault, StageRefusal, complete};
+use std::alloc::Global;
+use tree_pool::Pool;
+
+/// A word and a number as a line.
+fn put_count(alloc: Global, text: &mut Vec<u8>, word: &str, number: u64) -> Option<()> {
+    let line = format!(in alloc; "{word} {number}\n").ok()?;
+    text.extend_from_slice(line.as_bytes()).ok()
+}
+
+/// The node types of a row, a line each.
+fn put_row(text: &mut Vec<u8>, types: &Types, row: &RuleRow) -> Option<()>
+    requires types { AreTypes types.now }
+    requires known { All (IsKnownNode types.now) row.now.nodes }
+{
+    for node in row.nodes.as_slice() {
+        put_node_type(text, types, node).ok()?;
+        text.push(b'\n').ok()?;
+    }
+    Some(())
+}
+
+/// The node types of all rows.
+fn put_rows(text: &mut Vec<u8>, types: &Types, rule: &Rule) -> Option<()>
+    requires types { AreTypes types.now }
+    requires known { AreKnown types.now rule.now.rows }
+{
+    for row in rule.rows.as_slice() {
+        put_row(text, types, row)?;
+    }
+    Some(())
+}
+
+/// The stage of a completion, the node types of its rule, and how many trees are listed.
+fn put_completion(
+    alloc: Global,
+    text: &mut Vec<u8>,
+    types: &Types,
+    completion: &Completion,
+) -> Option<()>
+    requires types { AreTypes types.now }
+    requires known { AreKnown types.now completion.now.rule.rows }
+{
+    put_count(alloc, text, "stage", completion.stage as u64)?;
+    put_rows(text, types, &completion.rule)?;
+    put_count(
+        alloc,
+        text,
+        "trees",
+        completion.listing.trees.as_slice().len() as u64,
+    )
+}
+
+/// What is too large.
+fn fault_word(what: StageFault) -> &'static str {
+    match what {
+        StageFault::TooManyTrees => "TooManyTrees",
+        StageFault::TreeTooLarge => "TreeTooLarge",
+        StageFault::RuleTooLarge => "RuleTooLarge",
+    }
+}
+
+/// The completion of a rule, as text; or the refusal and its stage.
+fn completed(alloc: Global, eq: &Equation, rule: &Rule) -> Option<Vec<u8>>
+    requires equation { IsEquation eq.now }
+    requires normal { IsNormalRule eq.now rule.now }
+    requires subcritical { IsSubcritical eq.now rule.now }
+{
+    let arena = Bump::new(alloc);
+    let Ok(mut pool) = Pool::new(alloc, &arena, &eq.types) else {
+        return None;
+    };
+    let mut text = Vec::new(alloc);
+    match complete(alloc, eq, rule, &mut pool) {
+        Ok(completion) => put_completion(alloc, &mut text, &eq.types, &completion)?,
+        Err(StageRefusal::Stage { stage, what }) => {
+            put_count(alloc, &mut text, fault_word(what), stage as u64)?
+        }
+        Err(StageRefusal::Memory) => return None,
+    }
+    Some(text)
+}
+
+/// The completion of the normal rule of the equation that a file writes down, where the inequality of regularities holds for it: its stage, the node types of its
+/// rule, a line each, and the number of its listed trees; or the refusal and its stage.
+pub fn completion_text(alloc: Global, file: &[u8]) -> Option<Vec<u8>> {
+    let Ok(eq) = read_equation(alloc, file) else {
+        return None;
+    };
+    let Ok(rule) = normal_rule(alloc, &eq) else {
+        return None;
+    };
+    if check_regularity(&eq, &rule).is_err() {
+        return None;
+    }
+    completed(alloc, &eq, &rule)
+}
+
+#[cfg(test)]
+mod tests {
+    use crate::completion_text;
+    use std::alloc::Global;
+
+    // In each file x is the noise and u the unknown.
+    const KPZ: &[u8] =
+        b"version = 1\nscaling = [2, 1]\n[[noise]]\nname = \"x\"\ndegree = \"-3/2-k\"\n[[unknown]]\nname = \"u\"\ndegree = \"2\"\nregularity = \"1/4\"\nright = \"u'(0,1)^2+x\"\n";
+
+    const PHI4: &[u8] =
+        b"version = 1\nscaling = [2, 1, 1, 1]\n[[noise]]\nname = \"x\"\ndegree = \"-5/2-k\"\n[[unknown]]\nname = \"u\"\ndegree = \"2\"\nregularity = \"-3/4\"\nright = \"-u^3+x\"\n";
+
+    const PAM: &[u8] =
+        b"version = 1\nscaling = [2, 1, 1]\n[[noise]]\nname = \"x\"\ndegree = \"-1-k\"\n[[unknown]]\nname = \"u\"\ndegree = \"2\"\nregularity = \"1/2\"\nright = \"u*x\"\n";
+
+    const EMPTY: &[u8] =
+        b"version = 1\nscaling = [2, 1, 1]\n[[noise]]\nname = \"x\"\ndegree = \"-2-k\"\n[[unknown]]\nname = \"u\"\ndegree = \"2\"\nregularity = \"-1/2\"\nright = \"\"\n";
+
+    const LARGE_TREE: &[u8] =
+        b"version = 1\nscaling = [1]\n[[noise]]\nname = \"x\"\ndegree = \"-19/20\"\n[[unknown]]\nname = \"u\"\ndegree = \"1\"\nregularity = \"0\"\nright = \"u*x\"\n";
+
+    const MANY_TREES: &[u8] =
+        b"version = 1\nscaling = [1, 1, 1, 1, 1]\n[[noise]]\nname = \"x\"\ndegree = \"-20\"\n[[unknown]]\nname = \"u\"\ndegree = \"2\"\nregularity = \"-19\"\nright = \"x\"\n";
+
+    const LARGE_RULE: &[u8] =
+        b"version = 1\nscaling = [1, 1, 1, 1, 1]\n[[noise]]\nname = \"x\"\ndegree = \"-3-k\"\n[[unknown]]\nname = \"u\"\ndegree = \"10\"\nregularity = \"6\"\nright = \"u^20*x\"\n";
+
+    // the noises x and y, the unknowns v and u
+    const MANY_TREES_LATER: &[u8] =
+        b"version = 1\nscaling = [1, 1, 1]\n[[noise]]\nname = \"x\"\ndegree = \"-3/2-k\"\n[[noise]]\nname = \"y\"\ndegree = \"-4-k\"\n[[unknown]]\nname = \"v\"\ndegree = \"2\"\nregularity = \"1/4\"\nright = \"x\"\n[[unknown]]\nname = \"u\"\ndegree = \"11\"\nregularity = \"1\"\nright = \"v'(1,0,0)^2*y\"\n";
+
+    fn says(text: Option<Vec<u8>>, want: &[u8]) -> bool {
+        match text {
+            Some(text) => text.as_slice() == want,
+            None => false,
+        }
+    }
+
+    fn is_completed_as(alloc: Global, file: &[u8], want: &[u8]) -> bool {
+        says(completion_text(alloc, file), want)
+    }
+
+    #[test]
+    fn the_rule_of_the_kpz_equation_is_complete(rt: HostRuntime) {
+        let alloc = rt.alloc();
+        assert!(rt;
+            is_completed_as(
+                alloc,
+                KPZ,
+                b"stage 0\n1\nx\nu'(0,1)\nu'(0,1)*u'(0,1)\ntrees 9\n".as_slice()
+            )
+        );
+    }
+
+    #[test]
+    fn phi4_in_three_dimensions_gets_derivatives(rt: HostRuntime) {
+        let alloc = rt.alloc();
+        assert!(rt;
+            is_completed_as(
+                alloc,
+                PHI4,
+                b"stage 1\n1\nx\nu\nu'(0,0,0,1)\nu'(0,0,1,0)\nu'(0,1,0,0)\nu*u\nu*u*u\ntrees 43\n".as_slice()
+            )
+        );
+    }
+
+    #[test]
+    fn the_parabolic_anderson_model_gets_derivatives(rt: HostRuntime) {
+        let alloc = rt.alloc();
+        assert!(rt;
+            is_completed_as(
+                alloc,
+                PAM,
+                b"stage 1\n1\nx\nu\nu'(0,0,1)\nu'(0,1,0)\nx*u\ntrees 4\n".as_slice()
+            )
+        );
+    }
+
+    #[test]
+    fn an_empty_right_side(rt: HostRuntime) {
+        let alloc = rt.alloc();
+        assert!(rt; is_completed_as(alloc, EMPTY, b"stage 0\n1\ntrees 0\n".as_slice()));
+    }
+
+    #[test]
+    fn what_is_too_large_at_the_first_stage(rt: HostRuntime) {
+        let alloc = rt.alloc();
+        assert!(rt; is_completed_as(alloc, LARGE_TREE, b"TreeTooLarge 0\n".as_slice()));
+        assert!(rt; is_completed_as(alloc, MANY_TREES, b"TooManyTrees 0\n".as_slice()));
+    }
+
+    #[test]
+    fn what_is_too_large_at_the_second_stage(rt: HostRuntime) {
+        let alloc = rt.alloc();
+        assert!(rt; is_completed_as(alloc, LARGE_RULE, b"RuleTooLarge 1\n".as_slice()));
+        assert!(rt; is_completed_as(alloc, MANY_TREES_LATER, b"TooManyTrees 1\n".as_slice()));
+    }
+}
