@@ -116,31 +116,38 @@ mod tests {
     use crate::completion_text;
     use std::alloc::Global;
 
-    // In each file x is the noise and u the unknown.
-    const KPZ: &[u8] =
-        b"version = 1\nscaling = [2, 1]\n[[noise]]\nname = \"x\"\ndegree = \"-3/2-k\"\n[[unknown]]\nname = \"u\"\ndegree = \"2\"\nregularity = \"1/4\"\nright = \"u'(0,1)^2+x\"\n";
-
-    const PHI4: &[u8] =
-        b"version = 1\nscaling = [2, 1, 1, 1]\n[[noise]]\nname = \"x\"\ndegree = \"-5/2-k\"\n[[unknown]]\nname = \"u\"\ndegree = \"2\"\nregularity = \"-3/4\"\nright = \"-u^3+x\"\n";
-
-    const PAM: &[u8] =
-        b"version = 1\nscaling = [2, 1, 1]\n[[noise]]\nname = \"x\"\ndegree = \"-1-k\"\n[[unknown]]\nname = \"u\"\ndegree = \"2\"\nregularity = \"1/2\"\nright = \"u*x\"\n";
-
-    const EMPTY: &[u8] =
-        b"version = 1\nscaling = [2, 1, 1]\n[[noise]]\nname = \"x\"\ndegree = \"-2-k\"\n[[unknown]]\nname = \"u\"\ndegree = \"2\"\nregularity = \"-1/2\"\nright = \"\"\n";
-
-    const LARGE_TREE: &[u8] =
-        b"version = 1\nscaling = [1]\n[[noise]]\nname = \"x\"\ndegree = \"-19/20\"\n[[unknown]]\nname = \"u\"\ndegree = \"1\"\nregularity = \"0\"\nright = \"u*x\"\n";
-
-    const MANY_TREES: &[u8] =
-        b"version = 1\nscaling = [1, 1, 1, 1, 1]\n[[noise]]\nname = \"x\"\ndegree = \"-20\"\n[[unknown]]\nname = \"u\"\ndegree = \"2\"\nregularity = \"-19\"\nright = \"x\"\n";
-
-    const LARGE_RULE: &[u8] =
-        b"version = 1\nscaling = [1, 1, 1, 1, 1]\n[[noise]]\nname = \"x\"\ndegree = \"-3-k\"\n[[unknown]]\nname = \"u\"\ndegree = \"10\"\nregularity = \"6\"\nright = \"u^20*x\"\n";
-
     // the noises x and y, the unknowns v and u
+    const DERIVATIVE_OF_A_NOISE: &[u8] =
+        b"version = 1\nscaling = [2, 1]\n[[noise]]\nname = \"x\"\ndegree = \"-3/2-k\"\n[[noise]]\nname = \"y\"\ndegree = \"-1/4-k\"\n[[unknown]]\nname = \"v\"\ndegree = \"2\"\nregularity = \"1/4\"\nright = \"x\"\n[[unknown]]\nname = \"u\"\ndegree = \"2\"\nregularity = \"1/8\"\nright = \"v'(0,1)^2*y+v*y+x\"\n";
+
     const MANY_TREES_LATER: &[u8] =
         b"version = 1\nscaling = [1, 1, 1]\n[[noise]]\nname = \"x\"\ndegree = \"-3/2-k\"\n[[noise]]\nname = \"y\"\ndegree = \"-4-k\"\n[[unknown]]\nname = \"v\"\ndegree = \"2\"\nregularity = \"1/4\"\nright = \"x\"\n[[unknown]]\nname = \"u\"\ndegree = \"11\"\nregularity = \"1\"\nright = \"v'(1,0,0)^2*y\"\n";
+
+    // A file with the noise x and the unknown u.
+    fn file(
+        alloc: Global,
+        scaling: &str,
+        noise: &str,
+        kernel: &str,
+        regularity: &str,
+        right: &str,
+    ) -> Option<String> {
+        format!(in alloc;
+            "version = 1\nscaling = {scaling}\n[[noise]]\nname = \"x\"\ndegree = \"{noise}\"\n[[unknown]]\nname = \"u\"\ndegree = \"{kernel}\"\nregularity = \"{regularity}\"\nright = \"{right}\"\n"
+        ).ok()
+    }
+
+    fn text_for(
+        alloc: Global,
+        scaling: &str,
+        noise: &str,
+        kernel: &str,
+        regularity: &str,
+        right: &str,
+    ) -> Option<Vec<u8>> {
+        let text = file(alloc, scaling, noise, kernel, regularity, right)?;
+        completion_text(alloc, text.as_bytes())
+    }
 
     fn says(text: Option<Vec<u8>>, want: &[u8]) -> bool {
         match text {
@@ -149,42 +156,96 @@ mod tests {
         }
     }
 
-    fn is_completed_as(alloc: Global, file: &[u8], want: &[u8]) -> bool {
-        says(completion_text(alloc, file), want)
+    fn begins(text: Option<Vec<u8>>, want: &[u8]) -> bool {
+        match text {
+            Some(text) => text.as_slice().starts_with(want),
+            None => false,
+        }
+    }
+
+    // A completion at stage 1 with so many node types, and this last line.
+    fn has(text: Option<Vec<u8>>, node_types: usize, last: &[u8]) -> bool {
+        match text {
+            Some(text) => {
+                let text = text.as_slice();
+                let lines = text.iter().filter(|b| **b == b'\n').count();
+                text.starts_with(b"stage 1\n".as_slice())
+                    && lines.checked_sub(2) == Some(node_types)
+                    && text.ends_with(last)
+            }
+            None => false,
+        }
     }
 
     #[test]
     fn the_rule_of_the_kpz_equation_is_complete(rt: HostRuntime) {
         let alloc = rt.alloc();
+        let text = text_for(alloc, "[2, 1]", "-3/2-k", "2", "1/4", "u'(0,1)^2+x");
         assert!(rt;
-            is_completed_as(
-                alloc,
-                KPZ,
+            says(
+                text,
                 b"stage 0\n1\nx\nu'(0,1)\nu'(0,1)*u'(0,1)\ntrees 9\n".as_slice()
             )
         );
     }
 
     #[test]
+    fn the_rule_of_phi4_in_two_dimensions_is_complete(rt: HostRuntime) {
+        let alloc = rt.alloc();
+        let text = text_for(alloc, "[2, 1, 1]", "-2-k", "2", "-1/2", "-u^3+x");
+        assert!(rt; says(text, b"stage 0\n1\nx\nu\nu*u\nu*u*u\ntrees 9\n".as_slice()));
+    }
+
+    #[test]
     fn phi4_in_three_dimensions_gets_derivatives(rt: HostRuntime) {
         let alloc = rt.alloc();
+        let text = text_for(alloc, "[2, 1, 1, 1]", "-5/2-k", "2", "-3/4", "-u^3+x");
         assert!(rt;
-            is_completed_as(
-                alloc,
-                PHI4,
+            says(
+                text,
                 b"stage 1\n1\nx\nu\nu'(0,0,0,1)\nu'(0,0,1,0)\nu'(0,1,0,0)\nu*u\nu*u*u\ntrees 43\n".as_slice()
             )
         );
     }
 
     #[test]
-    fn the_parabolic_anderson_model_gets_derivatives(rt: HostRuntime) {
+    fn parabolic_anderson_models_get_derivatives(rt: HostRuntime) {
         let alloc = rt.alloc();
+        let plane = text_for(alloc, "[2, 1, 1]", "-1-k", "2", "1/2", "u*x");
         assert!(rt;
-            is_completed_as(
-                alloc,
-                PAM,
+            says(
+                plane,
                 b"stage 1\n1\nx\nu\nu'(0,0,1)\nu'(0,1,0)\nx*u\ntrees 4\n".as_slice()
+            )
+        );
+        let square = text_for(alloc, "[2, 1, 1]", "-1-k", "2", "1/2", "u^2*x");
+        assert!(rt; has(square, 11, b"\ntrees 4\n".as_slice()));
+        let space = text_for(alloc, "[2, 1, 1, 1]", "-3/2-k", "2", "1/4", "u*x");
+        assert!(rt; has(space, 7, b"\ntrees 16\n".as_slice()));
+    }
+
+    #[test]
+    fn a_generalised_kpz_equation(rt: HostRuntime) {
+        let alloc = rt.alloc();
+        let text = text_for(
+            alloc,
+            "[2, 1]",
+            "-3/2-k",
+            "2",
+            "1/4",
+            "u'(0,1)^2+u*u'(0,1)^2+u^2*u'(0,1)^2+x+u*x+u^2*x+u^3*x",
+        );
+        assert!(rt; has(text, 37, b"\ntrees 40\n".as_slice()));
+    }
+
+    #[test]
+    fn a_noise_gets_a_derivative(rt: HostRuntime) {
+        let alloc = rt.alloc();
+        let text = completion_text(alloc, DERIVATIVE_OF_A_NOISE);
+        assert!(rt;
+            begins(
+                text,
+                b"stage 1\n1\nx\n1\nx\ny\ny'(0,1)\nv\nv'(0,1)\ny*v\n".as_slice()
             )
         );
     }
@@ -192,20 +253,25 @@ mod tests {
     #[test]
     fn an_empty_right_side(rt: HostRuntime) {
         let alloc = rt.alloc();
-        assert!(rt; is_completed_as(alloc, EMPTY, b"stage 0\n1\ntrees 0\n".as_slice()));
+        let text = text_for(alloc, "[2, 1, 1]", "-2-k", "2", "-1/2", "");
+        assert!(rt; says(text, b"stage 0\n1\ntrees 0\n".as_slice()));
     }
 
     #[test]
     fn what_is_too_large_at_the_first_stage(rt: HostRuntime) {
         let alloc = rt.alloc();
-        assert!(rt; is_completed_as(alloc, LARGE_TREE, b"TreeTooLarge 0\n".as_slice()));
-        assert!(rt; is_completed_as(alloc, MANY_TREES, b"TooManyTrees 0\n".as_slice()));
+        let chain = text_for(alloc, "[1]", "-19/20", "1", "0", "u*x");
+        assert!(rt; says(chain, b"TreeTooLarge 0\n".as_slice()));
+        let powers = text_for(alloc, "[1, 1, 1, 1, 1]", "-20", "2", "-19", "x");
+        assert!(rt; says(powers, b"TooManyTrees 0\n".as_slice()));
     }
 
     #[test]
     fn what_is_too_large_at_the_second_stage(rt: HostRuntime) {
         let alloc = rt.alloc();
-        assert!(rt; is_completed_as(alloc, LARGE_RULE, b"RuleTooLarge 1\n".as_slice()));
-        assert!(rt; is_completed_as(alloc, MANY_TREES_LATER, b"TooManyTrees 1\n".as_slice()));
+        let derivatives = text_for(alloc, "[1, 1, 1, 1, 1]", "-3-k", "10", "6", "u^20*x");
+        assert!(rt; says(derivatives, b"RuleTooLarge 1\n".as_slice()));
+        let trees = completion_text(alloc, MANY_TREES_LATER);
+        assert!(rt; says(trees, b"TooManyTrees 1\n".as_slice()));
     }
 }
