@@ -4,6 +4,7 @@ use Rattle.std.specs.List.{All, AllByRecursion}
 use Rattle.std.proofs.lemmas.List.Elements.{All-cons, All-nil}
 use Rattle.std.proofs.lemmas.List.Sums.{sum_by-cons}
 use Rattle.degree_numbers.specs.Multi.{plus_of, minus_of}
+use Rattle.degree_numbers.proofs.TypeBounds.{all_weaker}
 use Rattle.equation_file.specs.declared.equation.Equation.{Equation}
 use Rattle.equation_file.specs.Accepted.{IsEquation}
 use Rattle.ordered_lists.specs.Members.{IsIn}
@@ -26,11 +27,6 @@ use Rattle.rule_steps.proofs.NodeSets.{set_by, many_more}
 use Rattle.rule_steps.proofs.Raisings.{zeros, zeros-below, HasLength, raising-is, raising-there}
 use Rattle.rule_steps.proofs.UnitSets.{raised_from-more, raised_from-same, raised_from-less}
 use Rattle.rule_steps.proofs.Units.{unit_at, HasDirection, length-plus-left}
-
--- what holds of each, weakened
-weaker : {X : Type 0} (P Q : X → Type 0) → ((x : X) → P x → Q x) → (xs : List X) → AllByRecursion P xs → AllByRecursion Q xs
-weaker P Q to [] h = tt
-weaker P Q to (x ∷ xs) h = (to x h.0, weaker P Q to xs h.1)
 
 -- the multiindex n as far as it is walked: the entries before direction d, and i units in it
 abbrev pub so_far : ℕ → ℕ → List ℕ → List ℕ
@@ -132,7 +128,7 @@ join-self : (ms : List EdgeLabel) → IsInLabelOrder ms → ms ≡ join ms []
 join-self ms h = same_labels ms (join ms []) h (join-nil-sorted ms) (λ z. let c = count-join z ms [] in omega (arith, c))
 
 five : (ms : List EdgeLabel) → IsChoice ms → AllByRecursion HasFive ms
-five ms h = weaker (IsSmallLabel (2 ^ 30)) HasFive (λ e s. s.directions) ms h.small
+five ms h = all_weaker (IsSmallLabel (2 ^ 30)) HasFive ms (λ e s. s.directions) h.small
 
 -- raised by less is raised by more
 raised_from-below : (m n : List ℕ) (ms es : List EdgeLabel) → IsBelow m n → IsRaisedFrom m ms es → IsRaisedFrom n ms es
@@ -153,8 +149,8 @@ most-parts b (x ∷ xs) (y ∷ ys) h =
     ((omega (arith, first), rest.0), (omega (arith, first), rest.1))
 
 most-plus : (a b : ℕ) (xs ys : List ℕ) → AllByRecursion (λ m. m ≤ a) xs → AllByRecursion (λ m. m ≤ b) ys → AllByRecursion (λ m. m ≤ a + b) (plus_of xs ys)
-most-plus a b [] ys h k = weaker (λ m. m ≤ b) (λ m. m ≤ a + b) (λ m le. omega (arith, le)) ys k
-most-plus a b (x ∷ xs) [] h k = weaker (λ m. m ≤ a) (λ m. m ≤ a + b) (λ m le. omega (arith, le)) (x ∷ xs) h
+most-plus a b [] ys h k = all_weaker (λ m. m ≤ b) (λ m. m ≤ a + b) ys (λ m le. omega (arith, le)) k
+most-plus a b (x ∷ xs) [] h k = all_weaker (λ m. m ≤ a) (λ m. m ≤ a + b) (x ∷ xs) (λ m le. omega (arith, le)) h
 most-plus a b (x ∷ xs) (y ∷ ys) h k =
     let one : x ≤ a = h.0 in
     let two : y ≤ b = k.0 in
@@ -183,7 +179,7 @@ small_edges most [] h = All-nil (λ (e : EdgeType). All (λ m. m ≤ most) e.p.e
 small_edges most (e ∷ es) h = All-cons (λ (x : EdgeType). All (λ m. m ≤ most) x.p.entries) e es (from_recursion (λ m. m ≤ most) e.p.entries h.0) (small_edges most es h.1)
 
 wide : (d : ℕ) (ms : List EdgeLabel) → d < 5 → IsChoice ms → AllByRecursion (HasDirection d) ms
-wide d ms lt h = weaker (IsSmallLabel (2 ^ 30)) (HasDirection d) (λ e s. (let l = s.directions in omega (arith, lt, l))) ms h.small
+wide d ms lt h = all_weaker (IsSmallLabel (2 ^ 30)) (HasDirection d) ms (λ e s. (let l = s.directions in omega (arith, lt, l))) h.small
 
 -- choices, raised as far as n is walked
 module _ (ns : List NodeType) (are : AreChoices ns) (n : List ℕ) (directions : length n ≡ 5) where
@@ -259,12 +255,12 @@ module _ (ns : List NodeType) (are : AreChoices ns) (n : List ℕ) (directions :
       let below : IsBelow (so_far d i n) n = so_far-below d i n z (omega (arith, lt, directions)) (omega (arith, le)) in
       let p = old.only x h in
       let q = raised_from-below (so_far d i n) n (labels p.0) (labels x) below p.2 in
-      let own = weaker (IsSmallLabel (2 ^ 30)) (HasEntries (2 ^ 30)) (λ e s. s.small) (labels p.0) (are.choices p.0 p.1).small in
+      let own = all_weaker (IsSmallLabel (2 ^ 30)) (HasEntries (2 ^ 30)) (labels p.0) (λ e s. s.small) (are.choices p.0 p.1).small in
       let entries = most-raised (2 ^ 30) 4096 n (labels p.0) q.0 (entries-most 4096 n most) own q.1 in
       let all = subst (AllByRecursion (HasEntries (2 ^ 30 + 4096))) (sym q.2) (most-join (HasEntries (2 ^ 30 + 4096)) q.0 entries) in
       let top : 2 ^ 30 + 4096 ≤ 2 ^ 31 = omega arith in
       small_edges (2 ^ 31) x.edges
-      (weaker (HasEntries (2 ^ 30 + 4096)) (HasEntries (2 ^ 31)) (λ e s. weaker (λ m. m ≤ 2 ^ 30 + 4096) (λ m. m ≤ 2 ^ 31) (λ m k. omega (arith, top, k)) e.1 s) (labels x) all)
+      (all_weaker (HasEntries (2 ^ 30 + 4096)) (HasEntries (2 ^ 31)) (labels x) (λ e s. all_weaker (λ m. m ≤ 2 ^ 30 + 4096) (λ m. m ≤ 2 ^ 31) e.1 (λ m k. omega (arith, top, k)) s) all)
 
 -- all that is raised from the choices is all that can be added
 module _ (eq : Equation) (rule : Rule) (equation : IsEquation eq) (is_rule : IsRule eq rule) (small : IsSmallRule (2 ^ 30) rule) (k : ℕ) (n : List ℕ) (fs : List EdgeLabel) (opts : List NodeType) (directions : length n ≡ 5)
@@ -273,7 +269,7 @@ module _ (eq : Equation) (rule : Rule) (equation : IsEquation eq) (is_rule : IsR
   choice ms h = option-choice eq rule equation is_rule small k fs ms h
 
   lengths : (ms : List EdgeLabel) → IsIn ms (options eq.types rule k fs) → AllByRecursion (HasLength n) ms
-  lengths ms h = weaker HasFive (HasLength n) (λ e f. f ∙ sym directions) ms (five ms (choice ms h))
+  lengths ms h = all_weaker HasFive (HasLength n) ms (λ e f. f ∙ sym directions) (five ms (choice ms h))
 
   -- more than 2,000 choices are more than 2,000 additions
   pub options_many : HasMany (λ es. IsIn es (map labels opts)) → HasMany (IsAdditionTo eq.types rule k n fs)

@@ -5,7 +5,7 @@ use Rattle.std.specs.Option.{option_map, is_some}
 use Rattle.std.specs.Ordering.{is_eq}
 use Rattle.std.proofs.lemmas.Bool.Decides.{nat_tests}
 use Rattle.std.proofs.lemmas.List.Elements.{All-tail, All-cons, All-nil}
-use Rattle.std.proofs.lemmas.List.{drop_all, length-map}
+use Rattle.std.proofs.lemmas.List.{append-nil, drop_all, length-map}
 use Rattle.degree_numbers.specs.declared.types.Kind.{Kind}
 use Rattle.degree_numbers.specs.declared.types.Kind.TheVariants.{Noise, Kernel}
 use Rattle.degree_numbers.specs.Types.{kind_of}
@@ -42,11 +42,7 @@ all_end es rest i b whole le is h = is ∙ empty rest ∙ sym (ap is_some (witho
     empty (f ∷ fs) = grind (arith, nat_tests)
 
 left-end : (front rest : List EdgeLabel) (o : Option (List EdgeLabel)) → option_map (λ ms. front ++ ms) (without [] rest) ≡ o → is_some o ≡ true → Some front ≡ o
-left-end front [] o h s = ap Some (sym (nil front)) ∙ h
-  where
-    nil : (xs : List EdgeLabel) → xs ++ [] ≡ xs
-    nil [] = refl
-    nil (x ∷ xs) = ap (λ l. x ∷ l) (nil xs)
+left-end front [] o h s = ap Some (sym (append-nil front)) ∙ h
 left-end front (r ∷ rest) None h s = absurd cc
 left-end front (r ∷ rest) (Some ms) h s = absurd cc
 
