@@ -1,9 +1,11 @@
 -- The symbols of an elementary differential are those of the equation.
-use Rattle.std.proofs.Common.{◌≡◌, ℕ, zero, suc, ◌+◌, ◌<◌, ◌≤◌, ◌==◌, ℤ, Bool, true, false, not, cond, List, [], ◌∷◌, ◌++◌, length, map, drop, slice_get, refl, sym, subst, ◌∙◌, inl, inr, arith, Some, None, Option}
+use Rattle.std.proofs.Common.{◌≡◌, ℕ, zero, suc, ◌+◌, ◌<◌, ◌≤◌, ◌==◌, ℤ, Bool, true, false, not, cond, List, [], ◌∷◌, ◌++◌, length, map, drop, get_or, slice_get, refl, sym, subst, ◌∙◌, inl, inr, arith, Some, None, Option}
 use Rattle.std.specs.Prelude.{slice_index, option_map}
 use Rattle.std.specs.List.{All, AllByRecursion, list_any}
 use Rattle.std.specs.Ordering.{is_eq}
 use Rattle.std.proofs.lemmas.Bool.{cases_lt}
+use Rattle.std.proofs.lemmas.Grind.{common_steps}
+use Rattle.std.proofs.lemmas.List.{drop_all}
 use Rattle.std.proofs.lemmas.List.Elements.{All-head, All-tail}
 use Rattle.degree_numbers.specs.declared.Types.{Types}
 use Rattle.degree_numbers.specs.declared.TypeEntry.{TypeEntry}
@@ -18,14 +20,20 @@ use Rattle.equation_file.specs.declared.RightTerm.{RightTerm}
 use Rattle.equation_file.specs.declared.Unknown.{Unknown}
 use Rattle.plain_trees.specs.Plain.{Plain, bare, graft, root_of}
 use Rattle.plain_trees.specs.Degree.{HasTypes, IsMultiIndex}
-use Rattle.symbol_polys.specs.Symbols.{PlainSymbol, parameter, variable, noise, tree, expectation, symbol_order}
+use Rattle.symbol_polys.specs.Symbols.{PlainSymbol, parameter, variable, noise, tree, expectation, symbol_order, IsMonomial}
 use Rattle.symbol_polys.specs.Polynomials.{PlainTerm, monomials, HaveSameCoefficients, IsPolynomial}
 use Rattle.symbol_polys.specs.Products.{with_symbol, monomial_product, products_with, products}
+use Rattle.symbol_polys.specs.Text.{IsOver, IsTermOver}
+use Rattle.symbol_polys.specs.View.{symbol_of, terms_of}
+use Rattle.symbol_polys.specs.declared.Symbol.{Symbol}
+use Rattle.symbol_polys.specs.declared.Term.{Term}
 use Rattle.symbol_polys.specs.Derivatives.{without, derivatives}
+use Rattle.tree_pool.specs.Content.{Content, tree_at, Holds, IsKept}
+use Rattle.tree_pool.proofs.Walks.{at_holds}
 use Rattle.symbol_polys.proofs.Collected.{collected-all}
 use Rattle.symbol_polys.proofs.MonomialLaws.{all-monomial_product}
 use Rattle.elementary_diff.specs.Differentials.{Sides, symbol_by, factor_symbol, right_term, side_of, right_terms, edge_derivatives_by, edge_derivatives, by_edges, is_noise_symbol, noise_free, one_more, further_symbol, further, total_derivative, repeated, total_derivatives, root_factor, kernel_factor, above_factor, differential_of, differential_terms}
-use Rattle.elementary_diff.specs.Known.{IsKnown, AreKnown}
+use Rattle.elementary_diff.specs.Known.{IsKnown, AreKnown, IsFiveLong, AreFiveLong}
 
 -- entries behind the directions
 abbrev IsZeroFrom : ℕ → List ℕ → Type 0
@@ -47,6 +55,12 @@ zero-at zero zero (x ∷ m) h le = h.0
 zero-at zero (suc i) (x ∷ m) h le = zero-at zero i m h.1 (omega arith)
 zero-at (suc dims) zero (x ∷ m) h le = absurd (omega (arith, le))
 zero-at (suc dims) (suc i) (x ∷ m) h le = zero-at dims i m h (omega (arith, le))
+
+zeros-from : (dims : ℕ) (m : List ℕ) → IsZeroFrom dims m → AllByRecursion (λ x. x ≡ 0) (drop dims m)
+zeros-from zero [] h = tt
+zeros-from (suc dims) [] h = tt
+zeros-from zero (x ∷ m) h = (h zero (omega arith), zeros-from zero m (λ i le. h (suc i) (omega arith)))
+zeros-from (suc dims) (x ∷ m) h = zeros-from dims m (λ i le. h (suc i) (omega (arith, le)))
 
 root-multi : (ty : Types) (t : Plain) → HasTypes ty t → IsMultiIndex ty.dims (root_of t)
 root-multi ty (bare n) h = h
@@ -220,3 +234,43 @@ pub known-poly : (eq : Equation) (k : ℕ) (t : Plain) (mass : ℤ) (ts : List P
     AreKnown eq.types eq.parameters ts
 known-poly eq k t mass ts h types p same =
     collected-known eq.types eq.parameters mass ts (differential_terms eq k t) p same (known-differential eq.types eq.parameters (right_terms eq) k t (λ i. known-sides eq i h) types)
+
+-- what is read of the symbols
+over-symbol : (ty : Types) (ps : List (List ℕ)) (s : PlainSymbol) → IsKnown ty ps s → IsFiveLong s → IsOver ty ps s
+over-symbol ty ps (parameter i) h five = h
+over-symbol ty ps (variable k m) h five = (h.0, record { entries = five; rest = zeros-from ty.dims m h.1 })
+over-symbol ty ps (noise k) h five = h
+over-symbol ty ps (tree t) h five = absurd h
+over-symbol ty ps (expectation t) h five = absurd h
+
+over-symbols : (ty : Types) (ps : List (List ℕ)) (m : List PlainSymbol) → AllByRecursion (IsKnown ty ps) m → AllByRecursion IsFiveLong m → AllByRecursion (IsOver ty ps) m
+over-symbols ty ps [] h five = tt
+over-symbols ty ps (s ∷ m) h five = (over-symbol ty ps s h.0 five.0, over-symbols ty ps m h.1 five.1)
+
+over-terms : (ty : Types) (ps : List (List ℕ)) (ts : List PlainTerm) → AreKnown ty ps ts → AreFiveLong ts → AllByRecursion IsMonomial (monomials ts) → AllByRecursion (IsTermOver ty ps) ts
+over-terms ty ps [] h five each = tt
+over-terms ty ps (t ∷ ts) h five each = (record { over = over-symbols ty ps t.symbols h.0 five.0; trees = each.0.trees }, over-terms ty ps ts h.1 five.1 each.1)
+
+pub over-poly : (eq : Equation) (c : Content) (k i : ℕ) (t : Plain) (mass : ℤ) (ts : List PlainTerm) → IsEquation eq → c.types ≡ eq.types → Holds c i t → IsKept c.types t → IsPolynomial mass ts →
+    HaveSameCoefficients ts (differential_terms eq k (tree_at c i)) → AreFiveLong ts → AllByRecursion (IsTermOver eq.types eq.parameters) ts
+over-poly eq c k i t mass ts h e holds kept p same five =
+    let types : HasTypes eq.types (tree_at c i) = rw (at_holds c i t holds) (subst (λ (ty : Types). HasTypes ty t) e kept.known) in
+    over-terms eq.types eq.parameters ts (known-poly eq k (tree_at c i) mass ts h types p same) five p.each
+
+pub symbols-step : (ss : List Symbol) (i : ℕ) (s : Symbol) → i < length ss → s ≡ get_or ss i s → IsFiveLong (symbol_of s) → (AllByRecursion IsFiveLong (map symbol_of (drop i ss)) → AllByRecursion IsFiveLong (map symbol_of ss)) →
+    AllByRecursion IsFiveLong (map symbol_of (drop (i + 1) ss)) → AllByRecursion IsFiveLong (map symbol_of ss)
+symbols-step ss i s lt e five h rest =
+    let cut : drop i ss ≡ s ∷ drop (i + 1) ss = grind (arith, common_steps) in
+    h (rw cut (five, rest))
+
+pub symbols-end : (ss : List Symbol) (i : ℕ) → length ss ≤ i → (AllByRecursion IsFiveLong (map symbol_of (drop i ss)) → AllByRecursion IsFiveLong (map symbol_of ss)) → AllByRecursion IsFiveLong (map symbol_of ss)
+symbols-end ss i end h = h (rw (drop_all i ss end) tt)
+
+pub terms-step : (ts : List Term) (i : ℕ) (t : Term) → i < length ts → t ≡ get_or ts i t → AllByRecursion IsFiveLong (map symbol_of t.symbols) → (AreFiveLong (terms_of (drop i ts)) → AreFiveLong (terms_of ts)) →
+    AreFiveLong (terms_of (drop (i + 1) ts)) → AreFiveLong (terms_of ts)
+terms-step ts i t lt e five h rest =
+    let cut : drop i ts ≡ t ∷ drop (i + 1) ts = grind (arith, common_steps) in
+    h (rw cut (five, rest))
+
+pub terms-end : (ts : List Term) (i : ℕ) → length ts ≤ i → (AreFiveLong (terms_of (drop i ts)) → AreFiveLong (terms_of ts)) → AreFiveLong (terms_of ts)
+terms-end ts i end h = h (rw (drop_all i ts end) tt)

@@ -1,7 +1,9 @@
 -- Symbols of an equation.
 --   IsKnown ty ps s == s is one of the parameters ps, a noise, or a variable whose derivative is in the directions of the scaling
 --   AreKnown ty ps ts == the symbols of the terms are
-use Rattle.std.specs.Prelude.{◌≡◌, ℕ, ◌≤◌, ◌<◌, List, length, slice_index, Some}
+--   IsFiveLong s == where s is a variable, its multiindex has five entries
+--   AreFiveLong ts == so it is with the symbols of the terms
+use Rattle.std.specs.Prelude.{◌≡◌, ℕ, ◌≤◌, ◌<◌, List, length, slice_index, Some, ⊤}
 use Rattle.std.specs.List.{AllByRecursion}
 use Rattle.degree_numbers.specs.declared.Types.{Types}
 use Rattle.degree_numbers.specs.declared.Kind.TheVariants.{Noise, Kernel}
@@ -18,3 +20,13 @@ IsKnown ty ps (Rattle.symbol_polys.specs.Symbols.expectation t) = ⊥
 
 abbrev pub AreKnown : Types → List (List ℕ) → List PlainTerm → Type 0
 AreKnown ty ps ts = AllByRecursion (λ t. AllByRecursion (IsKnown ty ps) t.symbols) ts
+
+abbrev pub IsFiveLong : PlainSymbol → Type 0
+IsFiveLong (parameter i) = ⊤
+IsFiveLong (variable k m) = length m ≡ 5
+IsFiveLong (noise k) = ⊤
+IsFiveLong (Rattle.symbol_polys.specs.Symbols.tree t) = ⊤
+IsFiveLong (Rattle.symbol_polys.specs.Symbols.expectation t) = ⊤
+
+abbrev pub AreFiveLong : List PlainTerm → Type 0
+AreFiveLong ts = AllByRecursion (λ t. AllByRecursion IsFiveLong t.symbols) ts

@@ -1,9 +1,10 @@
-//! Symmetry factors of trees, and what elementary differentials are made of.
+//! Symmetry factors and elementary differentials of trees.
 #![tactic(auto)]
 
 mod answer;
 mod denominators;
 mod differentials;
+mod known_symbols;
 mod ordering;
 mod products;
 mod root_edges;
