@@ -2,4 +2,5 @@ mod Counted
 mod Entries
 mod Faults
 mod Stages
+mod Unique
 mod Within

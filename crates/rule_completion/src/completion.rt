@@ -1,11 +1,11 @@
 // The completion.
-ghost use Rattle.std.specs.Prelude.{◌≡◌, ◌<◌, ℕ, ℤ, length, unwrap_or, IfOk, IfErr};
+ghost use Rattle.std.specs.Prelude.{◌≡◌, ◌≤◌, ◌<◌, ℕ, ℤ, length, unwrap_or, IfOk, IfErr};
 ghost use Rattle.std.specs.List.{All};
 ghost use Rattle.std.specs.Option.{option_map};
 ghost use Rattle.std.specs.declared.option.Option.TheVariants.{Some};
 ghost use Rattle.equation_file.specs.Accepted.{IsEquation};
 ghost use Rattle.plain_trees.specs.Plain.{Plain};
-ghost use Rattle.normal_rule.specs.Rule.{IsNormalRule};
+ghost use Rattle.normal_rule.specs.Rule.{IsNormalRule, node_count};
 ghost use Rattle.normal_rule.specs.Regularity.{IsSubcritical, IsGap};
 ghost use Rattle.conforming_trees.specs.Conforming.{IsRule};
 ghost use Rattle.conforming_trees.specs.Listed.{IsListed, IsWholeList, IsFirstZero, HasTooManyTrees, HasTooLargeTree};
@@ -61,6 +61,7 @@ pub fn complete<'a>(
     ensures completion { IfOk result (λ c. IsCompletion eq.now base.now c.stage c.rule) }
     ensures reached { IfOk result (λ c. IsReached eq.now base.now c.stage c.rule) }
     ensures rule { IfOk result (λ c. IsRule eq.now c.rule) }
+    ensures small { IfOk result (λ c. node_count c.rule ≤ 2000) }
     ensures known { IfOk result (λ c. All (λ id. id.0 < length pool.new.trees) c.listing.trees) }
     ensures trees { IfOk result (λ c. IsWholeList eq.now c.rule (trees_of pool.new c.listing.trees)) }
     ensures known_zero { IfOk result (λ c. (id : TreeId) → c.listing.zero ≡ Some id → id.0 < length pool.new.trees) }
