@@ -1,8 +1,10 @@
-//! Examples of files: each fault, each limit at its number and one past it, and what comes first.
+//! Examples of files: each fault, each limit at its number and one past it, what comes first, and equations that people know.
 #![tactic(auto)]
 
 #[cfg(test)]
 mod counts;
+#[cfg(test)]
+mod examples;
 #[cfg(test)]
 mod files;
 #[cfg(test)]
