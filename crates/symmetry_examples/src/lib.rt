@@ -8,7 +8,7 @@ ghost use Rattle.degree_numbers.specs.Types.{AreTypes};
 
 use bumpalo::Bump;
 use degree_numbers::Types;
-pub use differentials::{are_terms, differential_of_text};
+pub use differentials::differential_text;
 use elementary_diff::symmetry;
 use gaussian_pairings::{Pairing, PairingError, pairings, vanishes};
 use plain_trees::read_tree;
