@@ -1,9 +1,9 @@
 -- Edges of a node that have one differential above them.
+--   edge_at es i == the i-th edge
 --   IsRepeated es i == behind the i-th edge there is another, of the same type and with the same tree above it
 use Rattle.std.specs.Prelude.{◌≡◌, ℕ, ◌+◌, ◌<◌, List, [], length, slice_index_or}
 use Rattle.tree_pool.specs.declared.node.EdgeTo.{EdgeTo}
 
--- what stands past the end of a list of edges
 abbrev pub edge_at : List EdgeTo → ℕ → EdgeTo
 edge_at es i = slice_index_or es i (record { kind = record { 0 = 0 }; p = record { entries = [] }; child = record { 0 = 0 } })
 
