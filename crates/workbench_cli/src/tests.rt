@@ -113,6 +113,39 @@ fn other_words_are_refused(rt: HostRuntime) -> Result<(), Fail> {
 }
 
 #[test]
+fn trees_takes_the_name_of_a_project(rt: HostRuntime) -> Result<(), Fail> {
+    for (line, code) in [
+        ("trees", 2),
+        ("trees pam pam", 2),
+        ("trees -pam", 2),
+        ("trees _pam", 2),
+        ("trees Pam", 2),
+        ("trees pam.toml", 2),
+        ("trees pam", 3),
+        ("trees 2d_pam-", 3),
+        ("trees a2345678901234567890123456789012", 3),
+        ("trees a23456789012345678901234567890123", 2),
+    ] {
+        let run = run_program(rt.alloc(), line, PHI4_2D.as_bytes(), &[], &[])?;
+        assert_eq!(rt; (run.code, run.out.len()), (code, 0), "{line}");
+    }
+    Ok(())
+}
+
+#[test]
+fn files_without_a_rule_to_complete(rt: HostRuntime) -> Result<(), Fail> {
+    for (text, err) in [
+        ("scalin", "refused 4 NotToml\n"),
+        (KPZ, "refused 6 NotSubcritical u xi 1/2 1/2\n"),
+    ] {
+        let run = run_program(rt.alloc(), "trees file", text.as_bytes(), &[], &[])?;
+        assert_eq!(rt; run.out.len(), 0);
+        assert_eq!(rt; run.err.as_slice(), err.as_bytes());
+    }
+    Ok(())
+}
+
+#[test]
 fn faults_of_files_and_sinks_are_told(rt: HostRuntime) -> Result<(), Fail> {
     let unread = run_program(rt.alloc(), "check file", PHI4_2D.as_bytes(), &[1], &[])?;
     assert_eq!(rt; (unread.code, unread.out.len()), (3, 0));

@@ -3,16 +3,17 @@ ghost use Rattle.std.specs.Prelude.{◌≡◌, ◌≢◌, ◌↔◌, ◌⊎◌, 
 ghost use Rattle.wb_outside.specs.Causes.{Rose};
 ghost use Rattle.wb_outside.specs.Told.{Lengthens, Grows, Gets};
 ghost use Rattle.workbench_core.specs.declared.refusal.Refusal.{Refusal};
-ghost use Rattle.workbench_cli.specs.Answer.{Answer, of_check, of_write_fault, IsOfFile, IsAnswer, IsAnswerTo, AsksFor, Asks};
 ghost use Rattle.workbench_core.specs.Check.{IsChecked};
 ghost use Rattle.workbench_core.specs.Refusals.{status_of, line_of};
-ghost use Rattle.workbench_cli.specs.Words.{IsCheck, IsNoCheck};
+ghost use Rattle.workbench_core.specs.Trees.{IsTreesOf};
+ghost use Rattle.workbench_cli.specs.Answer.{Answer, of_result, of_write_fault, Gives, IsOfFile, IsAnswer, IsAnswerTo, AsksFor, Asks};
+ghost use Rattle.workbench_cli.specs.Words.{IsCommand, IsNoCommand};
 
-use crate::words::file_of;
+use crate::words::{Command, read_words};
 use equation_file::MOST_BYTES;
 use std::alloc::Global;
 use wb_outside::{Files, OutsideError, Sink};
-use workbench_core::{Refusal, check, print_refusal};
+use workbench_core::{Refusal, check, print_refusal, trees_of};
 
 // One byte more than a file may have, so that a longer file is not taken for one that has as many.
 const MOST_FILE_BYTES: usize = MOST_BYTES + 1;
@@ -32,7 +33,7 @@ pub fn workbench<F: Files, O: Sink, E: Sink>(
     err: &mut E,
 ) -> Status
     // The causes of the faults.
-    ensures words { result.code ≡ 2 ↔ IsNoCheck (map string_bytes words.now) }
+    ensures words { result.code ≡ 2 ↔ IsNoCommand (map string_bytes words.now) }
     ensures file_fault { result.code ≡ 3 → Rose (F.faults files.old) (F.faults files.new) }
     ensures write_fault { result.code ≡ 15 → Rose (O.faults out.old) (O.faults out.new) }
 
@@ -41,25 +42,31 @@ pub fn workbench<F: Files, O: Sink, E: Sink>(
         × Gets (O.told out.old) (O.told out.new) (O.faults out.old) (O.faults out.new) a.out
         × Gets (E.told err.old) (E.told err.new) (E.faults err.old) (E.faults err.new) a.err }
 
-    // The answer for a told file, where nothing failed.
-    ensures check { (name text : List ℕ) → IsCheck (map string_bytes words.now) name → F.text files.old name ≡ Some text
+    // The answers of the commands for a told file, where nothing failed.
+    ensures check { (name text : List ℕ) → IsCommand (map string_bytes words.now) Command.Check name → F.text files.old name ≡ Some text
         → (Rose (F.faults files.old) (F.faults files.new) → ⊥) → (Rose (O.faults out.old) (O.faults out.new) → ⊥) → (result.code ≡ 17 → ⊥)
-        → (r : Result (List ℕ) Refusal) × IsChecked text r × (result.code ≡ (of_check r).status)
-        × Grows (O.told out.old) (O.told out.new) (of_check r).out
-        × ((Rose (E.faults err.old) (E.faults err.new) → ⊥) → Grows (E.told err.old) (E.told err.new) (of_check r).err) }
+        → (r : Result (List ℕ) Refusal) × IsChecked text r × (result.code ≡ (of_result r).status)
+        × Grows (O.told out.old) (O.told out.new) (of_result r).out
+        × ((Rose (E.faults err.old) (E.faults err.new) → ⊥) → Grows (E.told err.old) (E.told err.new) (of_result r).err) }
+    ensures trees { (name text : List ℕ) → IsCommand (map string_bytes words.now) Command.Trees name → F.text files.old name ≡ Some text
+        → (Rose (F.faults files.old) (F.faults files.new) → ⊥) → (Rose (O.faults out.old) (O.faults out.new) → ⊥) → (result.code ≡ 17 → ⊥)
+        → (r : Result (List ℕ) Refusal) × IsTreesOf text r × (result.code ≡ (of_result r).status)
+        × Grows (O.told out.old) (O.told out.new) (of_result r).out
+        × ((Rose (E.faults err.old) (E.faults err.new) → ⊥) → Grows (E.told err.old) (E.told err.new) (of_result r).err) }
 
     // The names that are asked for.
     ensures asked { Asks (map string_bytes words.now) result.code (F.asked files.old) (F.asked files.new) }
 {
-    match file_of(words) {
-        Some(name) => check_file(alloc, name, files, out, err),
+    match read_words(words) {
+        Some(request) => run(alloc, request.command, request.name, files, out, err),
         None => refuse(2, b"refused 2 Words\n", err),
     }
 }
 
-// `check` of the named file.
-fn check_file<F: Files, O: Sink, E: Sink>(
+// A command on the named file.
+fn run<F: Files, O: Sink, E: Sink>(
     alloc: Global,
+    command: Command,
     name: &str,
     files: &mut F,
     out: &mut O,
@@ -68,21 +75,26 @@ fn check_file<F: Files, O: Sink, E: Sink>(
     ensures never { result.code ≢ 2 }
     ensures file_fault { result.code ≡ 3 → Rose (F.faults files.old) (F.faults files.new) }
     ensures write_fault { result.code ≡ 15 → Rose (O.faults out.old) (O.faults out.new) }
-    ensures answer { (a : Answer) × IsAnswer (F.text files.old name.now) a × (result.code ≡ a.status)
+    ensures answer { (a : Answer) × IsAnswer command (F.text files.old name.now) a × (result.code ≡ a.status)
         × Gets (O.told out.old) (O.told out.new) (O.faults out.old) (O.faults out.new) a.out
         × Gets (E.told err.old) (E.told err.new) (E.faults err.old) (E.faults err.new) a.err }
     ensures asked { AsksFor name.now result.code (F.asked files.old) (F.asked files.new) }
 {
-    match checked(alloc, name, files) {
+    match answer(alloc, command, name, files) {
         Ok(text) => write_answer(&text, out, err),
         Err(refusal) => write_refusal(alloc, &refusal, err),
     }
 }
 
-// The check text of the named file, where nothing is wanting.
-fn checked<F: Files>(alloc: Global, name: &str, files: &mut F) -> Result<Vec<u8>, Refusal>
-    ensures text { IfOk result (λ v. IsOfFile (F.text files.old name.now) (Ok v.items)) }
-    ensures refused { IfErr result (λ e. (e ≡ Refusal.FileFault) ⊎ (e ≡ Refusal.Memory) ⊎ IsOfFile (F.text files.old name.now) (Err e)) }
+// What a command gives for the named file. Until there is a store a project is the file of its name.
+fn answer<F: Files>(
+    alloc: Global,
+    command: Command,
+    name: &str,
+    files: &mut F,
+) -> Result<Vec<u8>, Refusal>
+    ensures text { IfOk result (λ v. IsOfFile command (F.text files.old name.now) (Ok v.items)) }
+    ensures refused { IfErr result (λ e. (e ≡ Refusal.FileFault) ⊎ (e ≡ Refusal.Memory) ⊎ IsOfFile command (F.text files.old name.now) (Err e)) }
     ensures cause { IfErr result (λ e. e ≡ Refusal.FileFault → Rose (F.faults files.old) (F.faults files.new)) }
     ensures asked { Lengthens (F.asked files.old) (F.asked files.new) (name.now ∷ []) ⊎ ((result ≡ Err Refusal.Memory) × Lengthens (F.asked files.old) (F.asked files.new) []) }
 {
@@ -91,13 +103,24 @@ fn checked<F: Files>(alloc: Global, name: &str, files: &mut F) -> Result<Vec<u8>
         Err(OutsideError::Failed) => return Err(Refusal::FileFault),
         Err(OutsideError::Memory) => return Err(Refusal::Memory),
     };
-    check(alloc, &bytes)
+    given(alloc, command, &bytes)
+}
+
+// What a command gives for the bytes of a file.
+fn given(alloc: Global, command: Command, file: &[u8]) -> Result<Vec<u8>, Refusal>
+    ensures text { IfOk result (λ v. Gives command file.now (Ok v.items)) }
+    ensures refused { IfErr result (λ e. (e ≡ Refusal.Memory) ⊎ Gives command file.now (Err e)) }
+{
+    match command {
+        Command::Check => check(alloc, file),
+        Command::Trees => trees_of(alloc, file),
+    }
 }
 
 // The text on the output.
 fn write_answer<O: Sink, E: Sink>(text: &[u8], out: &mut O, err: &mut E) -> Status
     ensures code { (result.code ≡ 0) ⊎ ((result.code ≡ 15) × Rose (O.faults out.old) (O.faults out.new)) }
-    ensures answer { (a : Answer) × ((a ≡ of_check (Ok text.now)) ⊎ (a ≡ of_write_fault text.now)) × (result.code ≡ a.status)
+    ensures answer { (a : Answer) × ((a ≡ of_result (Ok text.now)) ⊎ (a ≡ of_write_fault text.now)) × (result.code ≡ a.status)
         × Gets (O.told out.old) (O.told out.new) (O.faults out.old) (O.faults out.new) a.out
         × Gets (E.told err.old) (E.told err.new) (E.faults err.old) (E.faults err.new) a.err }
 {

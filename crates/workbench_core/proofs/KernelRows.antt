@@ -11,7 +11,7 @@ use Rattle.normal_rule.specs.declared.rule.RuleRow.{RuleRow}
 use Rattle.normal_rule.specs.Order.{empty_node}
 use Rattle.normal_rule.specs.Regularity.{IsFirstFailure, HasRows}
 use Rattle.normal_rule.specs.Text.{node_type_text}
-use Rattle.workbench_core.specs.Verdict.{node_text_in}
+use Rattle.workbench_core.specs.Base.{node_text_in}
 
 -- the numbers of the kernels of rows
 abbrev numbers : List RuleRow → List ℕ

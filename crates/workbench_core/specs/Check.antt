@@ -1,16 +1,25 @@
 -- What the check of a file answers.
---   IsChecked file r == r is the verdict on the equation that the file writes down: its check text, or why it is refused; or the refusal of a file that writes down none
-use Rattle.std.specs.Prelude.{◌≡◌, ℕ, List, Result, Ok, Err}
+--   IsAccepted eq rule r == r is the check text of the rule with its gap
+--   IsVerdict eq r == r is that for the rule with which eq begins, or the refusal of its normal rule
+--   IsChecked file r == r is the verdict on the equation that the file writes down, or the refusal of a file that writes down none
+use Rattle.std.specs.Prelude.{◌≡◌, ℕ, ℤ, List, Result, Ok}
 use Rattle.equation_file.specs.declared.equation.Equation.{Equation}
-use Rattle.equation_file.specs.declared.refusal.FileRefusal.{FileRefusal}
-use Rattle.equation_file.specs.File.{equation_of}
-use Rattle.workbench_core.specs.Refusals.{of_file}
-use Rattle.workbench_core.specs.Verdict.{IsVerdict}
+use Rattle.normal_rule.specs.declared.rule.Rule.{Rule}
+use Rattle.normal_rule.specs.Regularity.{IsGap}
 use Rattle.workbench_core.specs.declared.refusal.Refusal.{Refusal}
+use Rattle.workbench_core.specs.Base.{IsForBase}
+use Rattle.workbench_core.specs.CheckText.{IsCheckText}
+use Rattle.workbench_core.specs.Files.{IsForFile}
 
-abbrev pub IsCheckedAs : Result Equation FileRefusal → Result (List ℕ) Refusal → Type 0
-IsCheckedAs (Ok eq) r = IsVerdict eq r
-IsCheckedAs (Err refusal) r = r ≡ Err (of_file refusal)
+pub record IsAccepted (eq : Equation) (rule : Rule) (r : Result (List ℕ) Refusal) : Type 0 where
+  pub gap : ℤ
+  pub is_gap : IsGap eq rule gap
+  pub text : List ℕ
+  pub is_text : IsCheckText eq rule gap text
+  pub answer : r ≡ Ok text
+
+abbrev pub IsVerdict : Equation → Result (List ℕ) Refusal → Type 0
+IsVerdict eq r = IsForBase (IsAccepted eq) eq r
 
 abbrev pub IsChecked : List ℕ → Result (List ℕ) Refusal → Type 0
-IsChecked file r = IsCheckedAs (equation_of file) r
+IsChecked file r = IsForFile IsVerdict file r

@@ -1,4 +1,7 @@
+pub mod Base
 pub mod Check
 pub mod CheckText
+pub mod Files
 pub mod Refusals
-pub mod Verdict
+pub mod TreeList
+pub mod Trees

@@ -1,9 +1,11 @@
 -- Refusals: their statuses and their lines.
 --   reason_text r, which_text w == the words for what is wrong with an entry, and for what is limited
 --   of_file f == the refusal of a file that writes down no equation
+--   of_stage j what == the refusal where a stage of the completion, from 0, is too large
 --   status_of r == the status of a refusal
+--   stage_text name j == the line of a refusal that names a stage
 --   line_of r == its line
-use Rattle.std.specs.Prelude.{ℕ, List, codes, ◌++◌}
+use Rattle.std.specs.Prelude.{ℕ, List, codes, decimal, ◌++◌}
 use Rattle.std.specs.Fmt.{signed_decimal}
 use Rattle.equation_document.specs.declared.fault.Reason.{Reason}
 use Rattle.equation_document.specs.declared.fault.Reason.TheVariants as reasons
@@ -11,8 +13,10 @@ use Rattle.equation_document.specs.declared.fault.Which.{Which}
 use Rattle.equation_document.specs.declared.fault.Which.TheVariants as limits
 use Rattle.equation_file.specs.declared.refusal.FileRefusal.{FileRefusal}
 use Rattle.equation_file.specs.declared.refusal.FileRefusal.TheVariants as files
+use Rattle.rule_completion.specs.declared.refusal.StageFault.{StageFault}
+use Rattle.rule_completion.specs.declared.refusal.StageFault.TheVariants as stages
 use Rattle.workbench_core.specs.declared.refusal.Refusal.{Refusal}
-use Rattle.workbench_core.specs.declared.refusal.Refusal.TheVariants.{FileFault, NotUtf8, NotToml, Malformed, Limit, NotSubcritical, RuleTooLarge, Memory}
+use Rattle.workbench_core.specs.declared.refusal.Refusal.TheVariants.{FileFault, NotUtf8, NotToml, Malformed, Limit, NotSubcritical, RuleTooLarge, TooManyTrees, TreeTooLarge, ZeroDegree, Memory}
 
 abbrev pub reason_text : Reason → List ℕ
 reason_text reasons.Missing = codes "missing"
@@ -47,6 +51,11 @@ of_file files.NotToml = NotToml
 of_file (files.Malformed entry reason) = Malformed entry reason
 of_file files.Memory = Memory
 
+abbrev pub of_stage : ℕ → StageFault → Refusal
+of_stage j stages.TooManyTrees = TooManyTrees j
+of_stage j stages.TreeTooLarge = TreeTooLarge j
+of_stage j stages.RuleTooLarge = RuleTooLarge j
+
 abbrev pub status_of : Refusal → ℕ
 status_of FileFault = 3
 status_of NotUtf8 = 4
@@ -54,8 +63,14 @@ status_of NotToml = 4
 status_of (Malformed entry reason) = 4
 status_of (Limit which count) = 5
 status_of (NotSubcritical kernel node left right) = 6
-status_of RuleTooLarge = 7
+status_of (RuleTooLarge stage) = 7
+status_of (TooManyTrees stage) = 7
+status_of (TreeTooLarge stage) = 7
+status_of (ZeroDegree tree) = 8
 status_of Memory = 17
+
+abbrev pub stage_text : List ℕ → ℕ → List ℕ
+stage_text name j = codes "refused 7 " ++ name ++ codes " " ++ decimal j ++ codes "\n"
 
 abbrev pub line_of : Refusal → List ℕ
 line_of FileFault = codes "refused 3 FileFault\n"
@@ -65,5 +80,8 @@ line_of (Malformed entry reason) = codes "refused 4 Malformed " ++ entry ++ code
 line_of (Limit which count) = codes "refused 5 Limit " ++ which_text which ++ codes " " ++ signed_decimal count ++ codes "\n"
 line_of (NotSubcritical kernel node left right) =
     codes "refused 6 NotSubcritical " ++ kernel ++ codes " " ++ node ++ codes " " ++ left ++ codes " " ++ right ++ codes "\n"
-line_of RuleTooLarge = codes "refused 7 RuleTooLarge 0\n"
+line_of (RuleTooLarge stage) = stage_text (codes "RuleTooLarge") stage
+line_of (TooManyTrees stage) = stage_text (codes "TooManyTrees") stage
+line_of (TreeTooLarge stage) = stage_text (codes "TreeTooLarge") stage
+line_of (ZeroDegree tree) = codes "refused 8 ZeroDegree " ++ tree ++ codes "\n"
 line_of Memory = codes "refused 17 Memory\n"

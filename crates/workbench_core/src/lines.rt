@@ -1,6 +1,6 @@
 // The lines of refusals.
 ghost use Rattle.std.specs.Prelude.{◌≡◌, ◌++◌, codes, IfOk, IfErr, OnOk};
-ghost use Rattle.workbench_core.specs.Refusals.{reason_text, which_text, line_of};
+ghost use Rattle.workbench_core.specs.Refusals.{reason_text, which_text, stage_text, line_of};
 
 use crate::refusal::Refusal;
 use equation_file::{Reason, Which};
@@ -51,6 +51,18 @@ fn which_text(which: Which) -> &'static [u8]
     }
 }
 
+// The line of a refusal that names a stage.
+fn stage_line(alloc: Global, name: &[u8], stage: u32) -> Result<Vec<u8>, AllocError>
+    ensures { IfOk result (λ v. v.items ≡ stage_text name.now stage) }
+{
+    let mut line = Vec::from_slice(alloc, b"refused 7 ")?;
+    line.extend_from_slice(name)?;
+    line.extend_from_slice(b" ")?;
+    line.extend_from_slice(Buffer::new().format(stage).as_bytes())?;
+    line.extend_from_slice(b"\n")?;
+    Ok(line)
+}
+
 fn line(alloc: Global, refusal: &Refusal) -> Result<Vec<u8>, AllocError>
     ensures { IfOk result (λ v. v.items ≡ line_of refusal.now) }
 {
@@ -58,7 +70,6 @@ fn line(alloc: Global, refusal: &Refusal) -> Result<Vec<u8>, AllocError>
         Refusal::FileFault => Vec::from_slice(alloc, b"refused 3 FileFault\n"),
         Refusal::NotUtf8 => Vec::from_slice(alloc, b"refused 4 NotUtf8\n"),
         Refusal::NotToml => Vec::from_slice(alloc, b"refused 4 NotToml\n"),
-        Refusal::RuleTooLarge => Vec::from_slice(alloc, b"refused 7 RuleTooLarge 0\n"),
         Refusal::Memory => Vec::from_slice(alloc, b"refused 17 Memory\n"),
         Refusal::Malformed { entry, reason } => {
             let mut line = Vec::from_slice(alloc, b"refused 4 Malformed ")?;
@@ -90,6 +101,15 @@ fn line(alloc: Global, refusal: &Refusal) -> Result<Vec<u8>, AllocError>
             line.extend_from_slice(left.as_slice())?;
             line.extend_from_slice(b" ")?;
             line.extend_from_slice(right.as_slice())?;
+            line.extend_from_slice(b"\n")?;
+            Ok(line)
+        }
+        Refusal::RuleTooLarge { stage } => stage_line(alloc, b"RuleTooLarge", *stage),
+        Refusal::TooManyTrees { stage } => stage_line(alloc, b"TooManyTrees", *stage),
+        Refusal::TreeTooLarge { stage } => stage_line(alloc, b"TreeTooLarge", *stage),
+        Refusal::ZeroDegree { tree } => {
+            let mut line = Vec::from_slice(alloc, b"refused 8 ZeroDegree ")?;
+            line.extend_from_slice(tree.as_slice())?;
             line.extend_from_slice(b"\n")?;
             Ok(line)
         }

@@ -3,8 +3,10 @@ ghost use Rattle.std.specs.Prelude.{◌≡◌, IfOk, IfErr};
 ghost use Rattle.workbench_core.specs.declared.refusal.Refusal.TheVariants.{Memory};
 
 use equation_file::{FileRefusal, Reason, Which};
+use rule_completion::StageFault;
 use sqlite_items::Items;
 use std::alloc::{AllocError, AllocFailed, Global};
+use tree_pool::PoolError;
 
 /// Why a file is refused. The fields are texts as they are printed.
 #[derive(Debug, Drop)]
@@ -33,8 +35,22 @@ pub enum Refusal {
         left: Items<u8>,
         right: Items<u8>,
     },
-    /// The normal rule has more than 2,000 node types.
-    RuleTooLarge,
+    /// The rule of this stage of the completion, from 0, has more than 2,000 node types. Stage 0 is the normal rule.
+    RuleTooLarge {
+        stage: u32,
+    },
+    /// More than 4,000 listed trees of this stage have at most 24 edges and a decoration sum of at most 64.
+    TooManyTrees {
+        stage: u32,
+    },
+    /// Some tree that would be listed at this stage, or would be of degree 0, has more than 24 edges or a decoration sum of more than 64.
+    TreeTooLarge {
+        stage: u32,
+    },
+    /// The completed rule has a tree of degree 0: the first one.
+    ZeroDegree {
+        tree: Items<u8>,
+    },
     /// There was no memory.
     Memory,
 }
@@ -55,8 +71,16 @@ impl<T: Drop> From<AllocFailed<T>> for Refusal {
     }
 }
 
+impl From<PoolError> for Refusal {
+    ghost from_gives = { λ _ e. e ≡ Memory };
+
+    fn from(_: PoolError) -> Self {
+        Refusal::Memory
+    }
+}
+
 impl Refusal {
-    ghost use Rattle.workbench_core.specs.Refusals.{of_file, status_of};
+    ghost use Rattle.workbench_core.specs.Refusals.{of_file, of_stage, status_of};
 
     /// The refusal of a file that writes down no equation.
     pub fn of_file(refusal: FileRefusal) -> Refusal
@@ -71,6 +95,17 @@ impl Refusal {
         }
     }
 
+    /// The refusal where a stage of the completion, from 0, is too large.
+    pub fn of_stage(stage: u32, what: StageFault) -> Refusal
+        ensures { result ≡ of_stage stage what }
+    {
+        match what {
+            StageFault::TooManyTrees => Refusal::TooManyTrees { stage },
+            StageFault::TreeTooLarge => Refusal::TreeTooLarge { stage },
+            StageFault::RuleTooLarge => Refusal::RuleTooLarge { stage },
+        }
+    }
+
     /// The status with which the program ends.
     pub fn status(&self) -> u8
         ensures { result ≡ status_of self.now }
@@ -82,7 +117,10 @@ impl Refusal {
             Refusal::Malformed { .. } => 4,
             Refusal::Limit { .. } => 5,
             Refusal::NotSubcritical { .. } => 6,
-            Refusal::RuleTooLarge => 7,
+            Refusal::RuleTooLarge { .. } => 7,
+            Refusal::TooManyTrees { .. } => 7,
+            Refusal::TreeTooLarge { .. } => 7,
+            Refusal::ZeroDegree { .. } => 8,
             Refusal::Memory => 17,
         }
     }

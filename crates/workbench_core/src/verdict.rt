@@ -1,25 +1,13 @@
 // The verdict on an equation file: its check text, or why it is refused.
-ghost use Rattle.std.specs.Prelude.{◌≡◌, ◌⊎◌, ◌<◌, ℕ, List, [], length, pos, IfOk, IfErr, IfSome, Ok, Err};
-ghost use Rattle.std.specs.List.{find};
-ghost use Rattle.std.specs.Option.{option_map, option_and_then};
-ghost use Rattle.degree_numbers.specs.Types.{AreTypes};
+ghost use Rattle.std.specs.Prelude.{◌≡◌, ◌⊎◌, Ok, Err, IfOk, IfErr};
 ghost use Rattle.equation_file.specs.Accepted.{IsEquation};
-ghost use Rattle.normal_rule.specs.Regularity.{IsFirstFailure, HasRows};
-ghost use Rattle.normal_rule.specs.Rule.{IsNormalRule};
-ghost use Rattle.normal_rule.specs.Text.{IsKnownNode, AreKnown};
-ghost use Rattle.workbench_core.specs.Check.{IsChecked};
-ghost use Rattle.workbench_core.specs.Verdict.{node_in, node_text_in, IsNotSubcritical, IsVerdict};
+ghost use Rattle.workbench_core.specs.Check.{IsVerdict, IsChecked};
 
+use crate::base::base_rule;
 use crate::refusal::Refusal;
-use crate::text::{check_text, kernel_name, side_text};
-use degree_numbers::{TypeId, Types};
+use crate::text::check_text;
 use equation_file::{Equation, read_equation};
-use normal_rule::{
-    NodeType, NotSubcritical, Rule, RuleRefusal, RuleRow, check_regularity, normal_rule,
-    put_node_type,
-};
-use sqlite_items::Items;
-use std::alloc::{AllocError, Global};
+use std::alloc::Global;
 
 /// The check text of a file, or why it is refused.
 pub fn check(alloc: Global, file: &[u8]) -> Result<Vec<u8>, Refusal>
@@ -38,73 +26,6 @@ pub fn verdict_on(alloc: Global, eq: &Equation) -> Result<Vec<u8>, Refusal>
     ensures text { IfOk result (λ v. IsVerdict eq.now (Ok v.items)) }
     ensures refused { IfErr result (λ e. (e ≡ Refusal.Memory) ⊎ IsVerdict eq.now (Err e)) }
 {
-    let rule = match normal_rule(alloc, eq) {
-        Ok(rule) => rule,
-        Err(RuleRefusal::RuleTooLarge) => return Err(Refusal::RuleTooLarge),
-        Err(RuleRefusal::Memory) => return Err(Refusal::Memory),
-    };
-    match check_regularity(eq, &rule) {
-        Ok(gap) => Ok(check_text(alloc, eq, &rule, &gap)?),
-        Err(failure) => Err(not_subcritical(alloc, eq, &rule, &failure)?),
-    }
-}
-
-// The refusal, in texts.
-fn not_subcritical(
-    alloc: Global,
-    eq: &Equation,
-    rule: &Rule,
-    failure: &NotSubcritical,
-) -> Result<Refusal, AllocError>
-    requires equation { IsEquation eq.now }
-    requires rows { HasRows eq.now rule.now }
-    requires known { AreKnown eq.now.types rule.now.rows }
-    requires failure { IsFirstFailure eq.now rule.now.rows failure.now }
-    ensures { IfOk result (λ e. IsNotSubcritical eq.now rule.now (Err e)) }
-{
-    let left = side_text(eq, failure.left);
-    let right = side_text(eq, failure.right);
-    Ok(Refusal::NotSubcritical {
-        kernel: Items::from_slice(alloc, kernel_name(&eq.types, failure.kernel))?,
-        node: Items::from_vec(node_text(alloc, &eq.types, rule.rows.as_slice(), failure)?),
-        left: Items::from_slice(alloc, left.bytes())?,
-        right: Items::from_slice(alloc, right.bytes())?,
-    })
-}
-
-// The text of the node type where the inequality fails.
-fn node_text(
-    alloc: Global,
-    types: &Types,
-    rows: &[RuleRow],
-    failure: &NotSubcritical,
-) -> Result<Vec<u8>, AllocError>
-    requires types { AreTypes types.now }
-    requires known { AreKnown types.now rows.now }
-    ensures { IfOk result (λ v. v.items ≡ node_text_in types.now rows.now failure.now.kernel.0 failure.now.node) }
-{
-    let mut text = Vec::new(alloc);
-    if let Some(node) = node_at(types, rows, failure.kernel, failure.node) {
-        put_node_type(&mut text, types, node)?;
-    }
-    Ok(text)
-}
-
-// A node type of the row of a kernel.
-fn node_at<'a>(
-    types: &Types,
-    rows: &'a [RuleRow],
-    kernel: TypeId,
-    node: usize,
-) -> Option<&'a NodeType>
-    requires { AreKnown types.now rows.now }
-    ensures node { option_map (λ n. n.now) result ≡ node_in rows.now kernel.0 node }
-    ensures known { IfSome result (λ n. IsKnownNode types.now n.now) }
-{
-    for row in rows {
-        if row.kernel == kernel {
-            return row.nodes.get(node);
-        }
-    }
-    None
+    let base = base_rule(alloc, eq)?;
+    Ok(check_text(alloc, eq, &base.rule, &base.gap)?)
 }

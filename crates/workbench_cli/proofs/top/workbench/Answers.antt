@@ -1,8 +1,9 @@
-use Rattle.std.proofs.Common.{refl, inr, sym, ap, ◌∙◌, subst}
-use Rattle.wb_outside.specs.Told.{Grows}
+use Rattle.std.proofs.Common.{refl, inr}
 use Rattle.wb_outside.proofs.ToldLemmas.{gets_nothing}
-use Rattle.workbench_cli.specs.Answer.{wrong_words, IsAnswer}
-use Rattle.workbench_cli.proofs.Answers.{decided, same_name}
+use Rattle.workbench_cli.specs.declared.words.Command.TheVariants.{Check, Trees}
+use Rattle.workbench_cli.specs.Answer.{wrong_words}
+use Rattle.workbench_cli.proofs.Answers.{delivered, for_told}
+use Rattle.workbench_cli.proofs.Commands.{same_command, same_name}
 use Rattle.workbench_cli.proofs.top.workbench.Goals as goal
 
 pub returns-in-None-clause-answer : goal.returns-in-None-clause-answer
@@ -10,12 +11,31 @@ returns-in-None-clause-answer g c =
     (wrong_words, inr (c.in-None.ensures.none, refl), c.refuse.ensures.code, gets_nothing _ _, c.refuse.ensures.line)
 
 pub returns-in-None-clause-check : goal.returns-in-None-clause-check
-returns-in-None-clause-check g c = λ name text check told files out memory. absurd (c.in-None.ensures.none name check)
+returns-in-None-clause-check g c = λ name text is told files out memory. absurd (c.in-None.ensures.none Check name is)
+
+pub returns-in-None-clause-trees : goal.returns-in-None-clause-trees
+returns-in-None-clause-trees g c = λ name text is told files out memory. absurd (c.in-None.ensures.none Trees name is)
 
 pub returns-in-Some-clause-check : goal.returns-in-Some-clause-check
-returns-in-Some-clause-check g c = λ name text check told files out memory.
-    let w = c.check_file.ensures.answer in
-    let named = same_name _ name c.in-Some.name.now check c.in-Some.ensures.found in
-    let answer = subst (λ told. IsAnswer told w.0) (ap (g.F.Files.text c.args.files.now) (sym named) ∙ told) w.1 in
-    let d = decided text w.0 _ answer w.2 (λ s. files (c.check_file.ensures.file_fault s)) (λ s. out (c.check_file.ensures.write_fault s)) memory in
-    (d.0, d.1, w.2 ∙ ap (λ x. x.status) d.2, subst (λ b. Grows (g.O.Sink.told c.args.out.now) (g.O.Sink.told c.check_file.new.out) b) (ap (λ x. x.out) d.2) (w.3.whole out), λ err. subst (λ b. Grows (g.E.Sink.told c.args.err.now) (g.E.Sink.told c.check_file.new.err) b) (ap (λ x. x.err) d.2) (w.4.whole err))
+returns-in-Some-clause-check g c = λ name text is told files out memory.
+    let w = c.run.ensures.answer in
+    let found = c.in-Some.ensures.found in
+    let asked = for_told (g.F.Files.text c.args.files.now) Check _ name _ text w.0 (same_command _ _ Check _ name found is) (same_name _ _ Check _ name found is) told w.1 in
+    delivered Check text w.0 _ (record {
+      out_before = g.O.Sink.told c.args.out.now;
+      out_now = g.O.Sink.told c.run.new.out;
+      err_before = g.E.Sink.told c.args.err.now;
+      err_now = g.E.Sink.told c.run.new.err;
+    }) _ asked w.2 (λ s. files (c.run.ensures.file_fault s)) (λ s. out (c.run.ensures.write_fault s)) memory (w.3.whole out) (λ stayed. w.4.whole stayed)
+
+pub returns-in-Some-clause-trees : goal.returns-in-Some-clause-trees
+returns-in-Some-clause-trees g c = λ name text is told files out memory.
+    let w = c.run.ensures.answer in
+    let found = c.in-Some.ensures.found in
+    let asked = for_told (g.F.Files.text c.args.files.now) Trees _ name _ text w.0 (same_command _ _ Trees _ name found is) (same_name _ _ Trees _ name found is) told w.1 in
+    delivered Trees text w.0 _ (record {
+      out_before = g.O.Sink.told c.args.out.now;
+      out_now = g.O.Sink.told c.run.new.out;
+      err_before = g.E.Sink.told c.args.err.now;
+      err_now = g.E.Sink.told c.run.new.err;
+    }) _ asked w.2 (λ s. files (c.run.ensures.file_fault s)) (λ s. out (c.run.ensures.write_fault s)) memory (w.3.whole out) (λ stayed. w.4.whole stayed)

@@ -1,6 +1,6 @@
 use Rattle.std.proofs.Common.{◌≡◌, drop}
-use Rattle.workbench_core.specs.Verdict.{node_in}
-use Rattle.workbench_core.proofs.verdict.node_at.Given as goal
+use Rattle.workbench_core.specs.Base.{node_in}
+use Rattle.workbench_core.proofs.base.node_at.Given as goal
 
 -- the row is found among those that are left
 abbrev pub invariant-loop-row : goal.invariant-loop-row

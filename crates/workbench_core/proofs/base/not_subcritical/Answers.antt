@@ -1,8 +1,8 @@
-use Rattle.std.proofs.Common.{◌∙◌, ap, Err}
+use Rattle.std.proofs.Common.{◌∙◌, ap}
 use Rattle.workbench_core.specs.declared.refusal.Refusal.TheVariants.{NotSubcritical}
-use Rattle.workbench_core.specs.Verdict.{node_text_in}
+use Rattle.workbench_core.specs.Base.{node_text_in}
 use Rattle.workbench_core.proofs.KernelRows.{failing_text}
-use Rattle.workbench_core.proofs.verdict.not_subcritical.Goals as goal
+use Rattle.workbench_core.proofs.base.not_subcritical.Goals as goal
 
 pub returns : goal.returns
 returns c =
@@ -20,5 +20,5 @@ returns c =
       right = c.side_text-right.result;
       left_text = c.side_text-left.ensures;
       right_text = c.side_text-right.ensures;
-      answer = λ i. Err (NotSubcritical (kernel i) (node i) (left i) (right i));
+      is = λ i. NotSubcritical (kernel i) (node i) (left i) (right i);
     }
