@@ -1,0 +1,9 @@
+//! What `trees` answers for equations that people know, and for files that it refuses.
+#![tactic(auto)]
+
+#[cfg(test)]
+mod known;
+#[cfg(test)]
+mod refused;
+#[cfg(test)]
+mod runs;
