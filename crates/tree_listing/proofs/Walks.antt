@@ -1,5 +1,5 @@
 -- What the edges of a root say of the tree.
-use Rattle.std.proofs.Common.{◌≡◌, ℕ, ◌+◌, ◌<◌, ◌≤◌, List, [], ◌∷◌, drop, length, get_or, sum, refl, sym, ap, ◌∙◌, arith, Bool, true, not, map, nat_cmp, ℤ, ◌+ℤ◌, FitsSigned, w64}
+use Rattle.std.proofs.Common.{◌≡◌, ℕ, ◌+◌, ◌<◌, ◌≤◌, List, [], ◌∷◌, length, get_or, sum, refl, arith, true, not, nat_cmp, ℤ, ◌+ℤ◌, FitsSigned, w64}
 use Rattle.std.specs.Ordering.{is_gt, ordering_then}
 use Rattle.std.proofs.lemmas.Int.{ints}
 use Rattle.std.proofs.lemmas.Option.{slice_get-get_or}
@@ -7,24 +7,14 @@ use Rattle.degree_numbers.specs.Degree.{IsWithin}
 use Rattle.degree_numbers.specs.declared.types.Types.{Types}
 use Rattle.degree_numbers.specs.Types.{AreTypes}
 use Rattle.plain_trees.specs.Degree.{degree_of, edge_degree_of}
-use Rattle.plain_trees.proofs.DegreeBounds.{limit, small_a, small_b, small_edge_a, small_edge_b, sum_fits}
-use Rattle.plain_trees.specs.Plain.{Plain, bare, graft, decoration_sum_of, tree_order, IsSmall}
+use Rattle.plain_trees.proofs.DegreeBounds.{limit, small_a, small_b, small_edge_a, small_edge_b}
+use Rattle.plain_trees.specs.Plain.{Plain, bare, IsSmall}
 use Rattle.degree_numbers.specs.Multi.{multi_order}
 use Rattle.tree_pool.specs.declared.node.EdgeTo.{EdgeTo}
-use Rattle.tree_pool.specs.Content.{Content, Holds, tree_at, tree_over, edge_over, id_order, IsPooled, IsKept}
-use Rattle.tree_pool.proofs.Walks.{no_edge, edges_left, none_left, at_holds, tree_cut, tree_end, at_small}
+use Rattle.tree_pool.specs.Content.{Content, Holds, tree_at, tree_over, id_order, IsPooled, IsKept}
+use Rattle.tree_pool.proofs.Walks.{no_edge, at_holds}
 use Rattle.tree_pool.proofs.Ids.{id_order-at}
 use Rattle.tree_listing.specs.Made.{is_at_most_first}
-
-pub sum_cut : (c : Content) (n : List ℕ) (es : List EdgeTo) (i : ℕ) → i < length es →
-    decoration_sum_of (tree_over c.trees n (drop i es)) ≡ sum (get_or es i no_edge).p.entries + decoration_sum_of (tree_at c (get_or es i no_edge).child.0) + decoration_sum_of (tree_over c.trees n (drop (i + 1) es))
-sum_cut c n es i h = ap decoration_sum_of (tree_cut c n es i no_edge h)
-
-pub sum_end : (c : Content) (n : List ℕ) (es : List EdgeTo) (i : ℕ) → length es ≤ i → decoration_sum_of (tree_over c.trees n (drop i es)) ≡ sum n
-sum_end c n es i h = ap decoration_sum_of (tree_end c n es i h)
-
-pub sum_whole : (c : Content) (i : ℕ) (n : List ℕ) (es : List EdgeTo) → Holds c i (tree_over c.trees n es) → decoration_sum_of (tree_over c.trees n es) ≡ decoration_sum_of (tree_at c i)
-sum_whole c i n es h = sym (ap decoration_sum_of (at_holds c i (tree_over c.trees n es) h))
 
 pub first_none : (c : Content) (i : ℕ) (n : List ℕ) (es : List EdgeTo) (k : ℕ) (p : List ℕ) (t : Plain) → Holds c i (tree_over c.trees n es) → length es < 1 →
     true ≡ is_at_most_first k p t (tree_at c i)

@@ -22,21 +22,6 @@ pub fn is_not_above(d: &Degree, e: &Degree) -> bool
     !d.order(e).is_gt()
 }
 
-/// The sum of all entries of the decorations of a tree.
-pub fn decoration_sum(pool: &Pool<'_>, id: TreeId) -> u32
-    requires { id.0 < length pool.now.trees }
-    ensures sum { result ≡ decoration_sum_of (tree_at pool.now id.0) }
-    ensures most { result ≤ 4096 }
-{
-    pool.laws();
-    let (n, edges) = pool.node(id);
-    let mut sum = 0;
-    for e in edges {
-        sum += e.p.total() + decoration_sum(pool, e.child);
-    }
-    sum + n.total()
-}
-
 /// Whether an edge with this tree above it may stand in front of the edges of a root.
 fn is_at_most_first(pool: &Pool<'_>, edge: &EdgeType, child: TreeId, rest: TreeId) -> bool
     requires child { child.0 < length pool.now.trees }
@@ -77,7 +62,7 @@ fn grown_sum(pool: &Pool<'_>, site: &Site, child: TreeId) -> u32
     requires small { sum site.now.edge.p.entries ≤ 64 }
     ensures { result ≡ decoration_sum_of (grown pool.now site.now child) }
 {
-    site.edge.p.total() + decoration_sum(pool, child) + decoration_sum(pool, site.rest)
+    site.edge.p.total() + pool.decoration_sum(child) + pool.decoration_sum(site.rest)
 }
 
 /// Whether what stands at the site with this tree above the new edge is a stem.

@@ -11,7 +11,7 @@ ghost use Rattle.tree_listing.specs.Gathered.{gathered, IsFoundIn, IsKeeping, Is
 
 use crate::found::{Found, put};
 use crate::level::Stem;
-use crate::passes::{MOST_DECORATION, decoration_sum};
+use crate::passes::MOST_DECORATION;
 use crate::refusal::ListRefusal;
 use crate::roots::{Room, roots};
 use crate::stems::decorate;
@@ -32,7 +32,7 @@ fn room_of(pool: &Pool<'_>, most: &Degree, stem: TreeId) -> Room
     Room {
         degree: pool.degree(stem),
         most: *most,
-        entries: MOST_DECORATION.saturating_sub(decoration_sum(pool, stem)),
+        entries: MOST_DECORATION.saturating_sub(pool.decoration_sum(stem)),
     }
 }
 

@@ -1,18 +1,23 @@
 -- The nodes of a pool and their trees.
-use Rattle.std.proofs.Common.{◌≡◌, ◌≢◌, ℕ, ◌<◌, ◌≤◌, List, [], ◌∷◌, ◌++◌, length, get_or, slice_get, Some, refl, sym, ap, ◌∙◌, arith, inr}
+use Rattle.std.proofs.Common.{◌≡◌, ◌≢◌, ℕ, ◌<◌, ◌≤◌, List, [], ◌∷◌, ◌++◌, length, map, get_or, slice_get, Some, refl, sym, ap, ◌∙◌, arith, inr}
 use Rattle.std.specs.Option.{option_map}
+use Rattle.std.proofs.lemmas.List.{get_or-map, map-append}
 use Rattle.std.proofs.lemmas.Option.{slice_get_within, slice_get-get_or, slice_get-map, slice_get_read}
 use Rattle.degree_numbers.specs.declared.types.Types.{Types}
-use Rattle.plain_trees.specs.Plain.{Plain}
-use Rattle.tree_pool.specs.Content.{Content, tree_over, AreBelow, IsKept, IsPooled, IsGrownBy, Holds}
-use Rattle.tree_pool.specs.Nodes.{Shape, shape_of, shapes, tree_of_shape, trees_of, AreNodes, LacksShape, IsShapeAt, HasShape, GainsShape}
+use Rattle.plain_trees.specs.Plain.{Plain, bare}
+use Rattle.tree_pool.specs.Content.{Content, tree_over, AreBelow, IsKept, IsPooled, IsGrownBy, Holds, tree_at}
+use Rattle.tree_pool.specs.Nodes.{Shape, shape_of, shapes, tree_of_shape, trees_of, AreNodes, LacksShape, measure, measures_of, AreMeasured, IsShapeAt, HasShape, GainsShape}
 use Rattle.tree_pool.specs.declared.node.EdgeTo.{EdgeTo}
+use Rattle.tree_pool.specs.declared.node.Measures.{Measures}
 use Rattle.tree_pool.specs.declared.node.Node.{Node}
 use Rattle.tree_pool.proofs.Trees.{trees_of-at, trees_after-push, length-trees_of, length-shapes, AreNodes-push, slice_get-end, slice_get_some, children_among}
 
 pub shapes_push : (xs : List Node) (x : Node) → shapes (xs ++ x ∷ []) ≡ shapes xs ++ shape_of x ∷ []
 shapes_push [] x = refl
 shapes_push (y ∷ xs) x = ap (λ (zs : List Shape). shape_of y ∷ zs) (shapes_push xs x)
+
+pub measures_push : (xs : List Node) (x : Node) → measures_of (xs ++ x ∷ []) ≡ measures_of xs ++ x.measures ∷ []
+measures_push xs x = map-append (λ (y : Node). y.measures) xs (x ∷ [])
 
 pub node_at : (nodes : List Node) (c : Content) (ty : Types) (i : ℕ) (x : Node) → record { types = ty; trees = trees_of (shapes nodes) } ≡ c → AreNodes ty (shapes nodes) → i < length c.trees → x ≡ get_or nodes i x →
     (slice_get c.trees i ≡ Some (tree_over c.trees x.n.entries x.edges.now)) × AreBelow i x.edges.now × IsKept c.types (tree_over c.trees x.n.entries x.edges.now)
@@ -57,6 +62,31 @@ pushed_grown nodes more c ty n es e gains = record {
   types = ap (λ (d : Content). d.types) e;
   trees = inr (trees_pushed nodes more c.trees n es (ap (λ (d : Content). d.trees) e) gains);
 }
+
+-- the measures that a node keeps are those of its tree
+pub measures_at : (nodes : List Node) (c : Content) (ty : Types) (i : ℕ) (x : Node) → content ty nodes ≡ c → AreMeasured ty nodes → i < length c.trees → x ≡ get_or nodes i x → x.measures ≡ measure c.types (tree_at c i)
+measures_at nodes c ty i x e measured h at =
+    let ts : trees_of (shapes nodes) ≡ c.trees = ap (λ (d : Content). d.trees) e in
+    let same : ty ≡ c.types = ap (λ (d : Content). d.types) e in
+    let d : Measures = measure ty (bare []) in
+    let within : i < length nodes = omega (arith, h, ap length ts, length-trees_of (shapes nodes), length-shapes nodes) in
+    let there : i < length (trees_of (shapes nodes)) = omega (arith, h, ap length ts) in
+    let kept : get_or (measures_of nodes) i d ≡ (get_or nodes i x).measures = get_or-map (λ (y : Node). y.measures) nodes i x d within in
+    let known : get_or (map (measure ty) (trees_of (shapes nodes))) i d ≡ measure ty (get_or (trees_of (shapes nodes)) i (bare [])) = get_or-map (measure ty) (trees_of (shapes nodes)) i (bare []) d there in
+    let found : x.measures ≡ measure ty (get_or (trees_of (shapes nodes)) i (bare [])) = ap (λ (y : Node). y.measures) at ∙ sym kept ∙ ap (λ (ms : List Measures). get_or ms i d) measured ∙ known in
+    rw (ts, same) at found
+
+-- the nodes with one more that keeps the measures of its tree
+pub measures_pushed : (nodes more : List Node) (c : Content) (ty : Types) (n : List ℕ) (es : List EdgeTo) (m : Measures) → content ty nodes ≡ c → AreMeasured ty nodes →
+    GainsShape (shapes nodes) (shapes more) n es → measures_of more ≡ measures_of nodes ++ m ∷ [] → m ≡ measure c.types (tree_over c.trees n es) → AreMeasured ty more
+measures_pushed nodes more c ty n es m e measured gains kept is =
+    let same : ty ≡ c.types = ap (λ (d : Content). d.types) e in
+    let ts : trees_of (shapes nodes) ≡ c.trees = ap (λ (d : Content). d.trees) e in
+    let t : Plain = tree_over c.trees n es in
+    let before : measures_of nodes ≡ map (measure ty) c.trees = measured ∙ ap (map (measure ty)) ts in
+    let last : m ≡ measure ty t = is ∙ ap (λ (u : Types). measure u t) (sym same) in
+    let both : measures_of nodes ++ m ∷ [] ≡ map (measure ty) c.trees ++ measure ty t ∷ [] = ap (λ (ms : List Measures). ms ++ m ∷ []) before ∙ ap (λ (k : Measures). map (measure ty) c.trees ++ k ∷ []) last in
+    kept ∙ both ∙ sym (map-append (measure ty) c.trees (t ∷ [])) ∙ ap (map (measure ty)) (sym (trees_pushed nodes more c.trees n es ts gains))
 
 pub not_here : (nodes : List Node) (i : ℕ) (d : Node) (n : List ℕ) (es : List EdgeTo) → i < length nodes → (HasShape (shape_of (get_or nodes i d)) n es → ⊥) →
     slice_get (shapes nodes) i ≢ Some record { n = n; edges = es }

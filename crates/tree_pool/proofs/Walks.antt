@@ -1,11 +1,11 @@
 -- Walks over the edges of a root.
-use Rattle.std.proofs.Common.{◌≡◌, ℕ, zero, suc, ◌<◌, ◌≤◌, ◌+◌, ◌-◌, List, [], ◌∷◌, map, take, drop, length, get_or, slice_get, Some, refl, sym, ap, ◌∙◌, arith, min, Ordering, Equal, nat_cmp, length-drop}
+use Rattle.std.proofs.Common.{◌≡◌, ℕ, zero, suc, ◌<◌, ◌≤◌, ◌+◌, ◌-◌, List, [], ◌∷◌, map, take, drop, length, get_or, slice_get, Some, refl, sym, ap, ◌∙◌, arith, min, sum, Ordering, Equal, nat_cmp, length-drop}
 use Rattle.std.proofs.lemmas.Bool.Decides.{nat_tests}
 use Rattle.std.proofs.lemmas.List.{length-map}
 use Rattle.std.proofs.lemmas.Grind.{common_steps}
 use Rattle.std.specs.Ordering.{ordering_then}
 use Rattle.std.specs.Cmp.Lexicographic.{slice_cmp}
-use Rattle.plain_trees.specs.Plain.{Plain, bare, graft, root_of, edge_count_of, edges_order, tree_order, IsSmall}
+use Rattle.plain_trees.specs.Plain.{Plain, bare, graft, root_of, edge_count_of, decoration_sum_of, edges_order, tree_order}
 use Rattle.plain_trees.specs.View.{Labelled, grafted, edge_order_of}
 use Rattle.plain_trees.proofs.Orders.{edges_order-cons, then_stops}
 use Rattle.plain_trees.proofs.Views.{root_of-grafted}
@@ -50,21 +50,23 @@ tree_cut c n es i d lt = rw (edges_left es i d lt) refl
 pub tree_end : (c : Content) (n : List ℕ) (es : List EdgeTo) (i : ℕ) → length es ≤ i → tree_over c.trees n (drop i es) ≡ bare n
 tree_end c n es i h = rw (none_left es i h) refl
 
-pub at_small : (c : Content) (i : ℕ) (t : Plain) → Holds c i t → IsSmall t → IsSmall (tree_at c i)
-at_small c i t h small = rw (at_holds c i t h) small
-
 -- the number of edges does not hang on the root's decoration
 pub count_root : (n m : List ℕ) (es : List Labelled) → edge_count_of (grafted n es) ≡ edge_count_of (grafted m es)
 count_root n m [] = refl
 count_root n m (e ∷ es) = omega (arith, count_root n m es)
 
--- what the edges of a node say of the whole tree
+-- the decoration sum, by the edges that are left
+pub sum_cut : (c : Content) (n : List ℕ) (es : List EdgeTo) (i : ℕ) → i < length es →
+    decoration_sum_of (tree_over c.trees n (drop i es)) ≡ sum (get_or es i no_edge).p.entries + decoration_sum_of (tree_at c (get_or es i no_edge).child.0) + decoration_sum_of (tree_over c.trees n (drop (i + 1) es))
+sum_cut c n es i h = ap decoration_sum_of (tree_cut c n es i no_edge h)
+
+pub sum_end : (c : Content) (n : List ℕ) (es : List EdgeTo) (i : ℕ) → length es ≤ i → decoration_sum_of (tree_over c.trees n (drop i es)) ≡ sum n
+sum_end c n es i h = ap decoration_sum_of (tree_end c n es i h)
+
+-- the number of edges, by the edges that are left
 pub count_cut : (c : Content) (es : List EdgeTo) (i : ℕ) (d : EdgeTo) → i < length es →
     edge_count_of (tree_over c.trees [] (drop i es)) ≡ 1 + edge_count_of (tree_at c (get_or es i d).child.0) + edge_count_of (tree_over c.trees [] (drop (i + 1) es))
 count_cut c es i d lt = rw (edges_left es i d lt) refl
-
-pub count_whole : (c : Content) (i : ℕ) (n : List ℕ) (es : List EdgeTo) → Holds c i (tree_over c.trees n es) → edge_count_of (tree_over c.trees [] es) ≡ edge_count_of (tree_at c i)
-count_whole c i n es h = count_root [] n (map (edge_over c.trees) es) ∙ sym (ap edge_count_of (at_holds c i (tree_over c.trees n es) h))
 
 pub count_most : (c : Content) (i : ℕ) (t : Plain) → Holds c i t → edge_count_of t ≤ 24 → edge_count_of (tree_at c i) ≤ 24
 count_most c i t h small = rw (at_holds c i t h) small

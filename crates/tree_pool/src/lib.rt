@@ -7,6 +7,7 @@ mod forest;
 mod laws;
 mod lists;
 mod made;
+mod measures;
 mod node;
 mod order;
 mod plain;

@@ -1,6 +1,6 @@
-// The number of edges of a tree of a pool, and tree order of its trees.
+// Tree order of the trees of a pool.
 ghost use Rattle.std.specs.Prelude.{◌≡◌, ◌<◌, length};
-ghost use Rattle.plain_trees.specs.Plain.{edge_count_of, tree_order};
+ghost use Rattle.plain_trees.specs.Plain.{tree_order};
 ghost use Rattle.plain_trees.specs.View.{edge_order_of};
 ghost use Rattle.tree_pool.specs.Content.{tree_at, edge_over, id_order};
 
@@ -9,19 +9,6 @@ use crate::pool::Pool;
 use std::cmp::Ordering;
 
 impl<'a> Pool<'a> {
-    /// The number of edges of a tree. Takes no memory.
-    pub fn edge_count(&self, id: TreeId) -> u32
-        requires { id.0 < length self.now.trees }
-        ensures { result ≡ edge_count_of (tree_at self.now id.0) }
-    {
-        let (_, edges) = self.node(id);
-        let mut count = 0;
-        for e in edges {
-            count += 1 + self.edge_count(e.child);
-        }
-        count
-    }
-
     /// Tree order of two trees, by their numbers: the number of edges, then the root's decoration, then the lists of edges, lexicographically in edge order.
     /// A number that is that of no tree comes first, so that a closure over this call has no condition. Takes no memory.
     pub fn order(&self, a: TreeId, b: TreeId) -> Ordering

@@ -20,12 +20,12 @@ use std::marker::Model;
 pub struct Pool<'a> {
     types: Types,
     arena: &'a Bump,
-    nodes: Vec<Node<'a>>,
+    pub(crate) nodes: Vec<Node<'a>>,
 }
 
 impl<'a> Model for Pool<'a> {
     ghost use Rattle.tree_pool.specs.Content.{Content, content_code};
-    ghost use Rattle.tree_pool.specs.Nodes.{trees_of, shapes, AreNodes};
+    ghost use Rattle.tree_pool.specs.Nodes.{trees_of, shapes, AreMeasuredNodes};
 
     ghost Value = { Content };
 
@@ -33,7 +33,7 @@ impl<'a> Model for Pool<'a> {
 
     ghost view = { λ p. record { types = p.types; trees = trees_of (shapes p.nodes.items) } };
 
-    ghost invariant = { λ p. AreNodes p.types (shapes p.nodes.items) };
+    ghost invariant = { λ p. AreMeasuredNodes p.types p.nodes.items };
 }
 
 /// A copy of types. Fails only for want of memory.
@@ -131,8 +131,9 @@ impl<'a> Pool<'a> {
         if let Some(i) = position(self.nodes.as_slice(), &n, edges) {
             return Ok(TreeId(i));
         }
+        let measures = self.measures_over(&n, edges);
         let id = self.nodes.len();
-        push_node(&mut self.nodes, self.arena, n, edges)?;
+        push_node(&mut self.nodes, self.arena, n, edges, measures)?;
         Ok(TreeId(id))
     }
 }
