@@ -1,6 +1,8 @@
-//! What `trees` answers for equations that people know, and for files that it refuses.
+//! What `trees` answers for equations that people know and for files of examples/, and for files that it refuses.
 #![tactic(auto)]
 
+#[cfg(test)]
+mod examples;
 #[cfg(test)]
 mod known;
 #[cfg(test)]
