@@ -1,0 +1,6 @@
+mod Bases
+mod Checks
+mod Completions
+mod OfFiles
+mod SmallStages
+mod Texts
