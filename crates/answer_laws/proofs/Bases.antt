@@ -2,8 +2,8 @@
 use Rattle.std.proofs.Common.{◌≡◌, ℕ, zero, suc, ◌<◌, ◌++◌, Bool, false, true≢false, List, [], ◌∷◌, length, get_or, Result, Err, inl, inr, refl, sym, ap, ◌∙◌, subst, arith}
 use Rattle.std.specs.List.{prefix_len}
 use Rattle.std.proofs.lemmas.List.Sums.{prefix_len_stops}
-use Rattle.equation_file.specs.declared.equation.Equation.{Equation}
-use Rattle.equation_file.specs.Accepted.{IsEquation}
+use Rattle.equations.specs.declared.equation.Equation.{Equation}
+use Rattle.equations.specs.Accepted.{IsEquation}
 use Rattle.ordered_lists.specs.Members.{IsIn}
 use Rattle.ordered_lists.proofs.Members.{in_append_right}
 use Rattle.normal_rule.specs.declared.regularity.NotSubcritical.{NotSubcritical as Failure}
@@ -99,9 +99,8 @@ module _ (eq : Equation) where
               not_both h.0.rows first.row (subst (IsSubcritical eq) (sym same) base.subcritical) there (failure_fails h.0.rows small.1.failure first)
         ]
 
-    module _ (answers : Rule → Result (List ℕ) Refusal → Type 0)
-        (one : (rule : Rule) (r s : Result (List ℕ) Refusal) → IsBase eq rule → answers rule r → answers rule s → r ≡ s) where
-      pub one_for_base : (r s : Result (List ℕ) Refusal) → IsForBase answers eq r → IsForBase answers eq s → r ≡ s
+    module _ {T : Type 0} (answers : Rule → Result T Refusal → Type 0) (one : (rule : Rule) (r s : Result T Refusal) → IsBase eq rule → answers rule r → answers rule s → r ≡ s) where
+      pub one_for_base : (r s : Result T Refusal) → IsForBase answers eq r → IsForBase answers eq s → r ≡ s
       one_for_base r s h k =
           elim h [
             | inl a ↦

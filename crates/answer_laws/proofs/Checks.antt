@@ -1,8 +1,8 @@
 -- A file has at most one answer of `check`.
 use Rattle.std.proofs.Common.{◌≡◌, ℕ, ℤ, ◌≤ℤ◌, List, Result, Ok, sym, ap, ◌∙◌, subst, arith}
 use Rattle.std.proofs.lemmas.Int.{ints}
-use Rattle.equation_file.specs.declared.equation.Equation.{Equation}
-use Rattle.equation_file.specs.Accepted.{IsEquation}
+use Rattle.equations.specs.declared.equation.Equation.{Equation}
+use Rattle.equations.specs.Accepted.{IsEquation}
 use Rattle.normal_rule.specs.declared.rule.Rule.{Rule}
 use Rattle.normal_rule.specs.Regularity.{IsGap}
 use Rattle.workbench_core.specs.declared.refusal.Refusal.{Refusal}

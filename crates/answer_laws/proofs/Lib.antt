@@ -1,6 +1,7 @@
 mod Bases
 mod Checks
 mod Completions
+mod Given
 mod OfFiles
 mod SmallStages
 mod Texts

@@ -7,7 +7,7 @@ use Rattle.degree_numbers.specs.Fraction.{Fraction}
 use Rattle.degree_numbers.specs.Printing.{IsDegreeText, degree_text}
 use Rattle.degree_numbers.specs.Types.{AreTypes}
 use Rattle.type_contexts.proofs.SameNumbers.{lowest_form}
-use Rattle.equation_file.specs.declared.equation.Equation.{Equation}
+use Rattle.equations.specs.declared.equation.Equation.{Equation}
 use Rattle.plain_trees.specs.Plain.{Plain}
 use Rattle.plain_trees.specs.Degree.{degree_of}
 use Rattle.plain_trees.specs.Text.{tree_text}

@@ -8,15 +8,19 @@ use std::process::ExitCode;
 use std::{env, io};
 use wb_outside::{HostFiles, Sink, StreamSink};
 use workbench_cli::workbench;
+use workbench_core::FixedRefusal;
 
-// The words after the program's name, or the status where there is no memory for them, or where they are not text.
-fn words_of(rt: &(impl Env + Alloc<A = Global>)) -> Result<Vec<String>, u8> {
+// The words after the program's name, or the refusal where there is no memory for them, or where they are not text.
+fn words_of(rt: &(impl Env + Alloc<A = Global>)) -> Result<Vec<String>, FixedRefusal> {
     let words = match env::args(rt) {
         Ok(words) => words,
-        Err(error) if error.kind() == ErrorKind::OutOfMemory => return Err(17),
-        Err(_) => return Err(2),
+        Err(error) if error.kind() == ErrorKind::OutOfMemory => return Err(FixedRefusal::Memory),
+        Err(_) => return Err(FixedRefusal::Words),
     };
-    words.skip(1).collect(rt.alloc()).map_err(|_| 17)
+    words
+        .skip(1)
+        .collect(rt.alloc())
+        .map_err(|_| FixedRefusal::Memory)
 }
 
 fn main(rt: HostRuntime) -> ExitCode {
@@ -24,14 +28,9 @@ fn main(rt: HostRuntime) -> ExitCode {
     let mut err = StreamSink::new(rt.stderr());
     let words = match words_of(&rt) {
         Ok(words) => words,
-        Err(code) => {
-            let line = if code == 2 {
-                "refused 2 Words\n"
-            } else {
-                "refused 17 Memory\n"
-            };
-            let _ = err.write(line.as_bytes());
-            return ExitCode::from(code);
+        Err(refusal) => {
+            let _ = err.write(refusal.line());
+            return ExitCode::from(refusal.status());
         }
     };
     let mut files = HostFiles::new(&rt);

@@ -4,14 +4,15 @@
 ghost use Rattle.std.specs.Prelude.{◌≡◌};
 ghost use Rattle.std.specs.List.{All};
 ghost use Rattle.degree_numbers.specs.Types.{AreTypes};
-ghost use Rattle.equation_file.specs.Accepted.{IsEquation};
+ghost use Rattle.equations.specs.Accepted.{IsEquation};
 ghost use Rattle.normal_rule.specs.Regularity.{IsSubcritical};
 ghost use Rattle.normal_rule.specs.Rule.{IsNormalRule};
 ghost use Rattle.normal_rule.specs.Text.{IsKnownNode, AreKnown};
 
 use bumpalo::Bump;
 use degree_numbers::Types;
-use equation_file::{Equation, read_equation};
+use equation_file::read_equation;
+use equations::Equation;
 use normal_rule::{Rule, RuleRow, check_regularity, normal_rule, put_node_type};
 use rule_completion::{Completion, StageFault, StageRefusal, complete};
 use std::alloc::Global;

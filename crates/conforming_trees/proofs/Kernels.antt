@@ -9,9 +9,9 @@ use Rattle.degree_numbers.specs.declared.types.TypeEntry.{TypeEntry}
 use Rattle.degree_numbers.specs.declared.types.Kind.{Kind}
 use Rattle.degree_numbers.specs.declared.types.Kind.TheVariants.{Kernel}
 use Rattle.degree_numbers.specs.Types.{kind_of, kernels, noise_count, IsKernelEntry}
-use Rattle.equation_file.specs.declared.equation.Equation.{Equation}
-use Rattle.equation_file.specs.declared.equation.Unknown.{Unknown}
-use Rattle.equation_file.specs.Accepted.{IsEquation}
+use Rattle.equations.specs.declared.equation.Equation.{Equation}
+use Rattle.equations.specs.declared.equation.Unknown.{Unknown}
+use Rattle.equations.specs.Accepted.{IsEquation}
 use Rattle.ordered_lists.specs.Members.{IsIn}
 use Rattle.ordered_lists.proofs.Members.{all_at, in_map}
 use Rattle.plain_trees.specs.Degree.{IsMultiIndex}

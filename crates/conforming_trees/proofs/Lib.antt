@@ -1,5 +1,6 @@
 pub mod Canonical
 pub mod Degrees
+pub mod Drawings
 pub mod Kernels
 pub mod Labels
 pub mod Lows

@@ -6,7 +6,7 @@ use Rattle.degree_numbers.specs.declared.degree.Degree.{Degree}
 use Rattle.degree_numbers.specs.declared.types.Types.{Types}
 use Rattle.degree_numbers.specs.Degree.{degree_plus, degree_zero}
 use Rattle.degree_numbers.specs.Types.{type_degree}
-use Rattle.equation_file.specs.declared.equation.Equation.{Equation}
+use Rattle.equations.specs.declared.equation.Equation.{Equation}
 use Rattle.plain_trees.specs.Plain.{Plain, bare, graft, edge_count_of, decoration_sum_of}
 use Rattle.plain_trees.specs.Degree.{degree_of, node_degree_of, edge_degree_of, derivative_degree_of}
 use Rattle.normal_rule.specs.declared.rule.Rule.{Rule}

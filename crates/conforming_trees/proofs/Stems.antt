@@ -7,8 +7,8 @@ use Rattle.degree_numbers.specs.Degree.{degree_plus, degree_zero}
 use Rattle.degree_numbers.specs.Types.{kind_of}
 use Rattle.degree_numbers.proofs.Orders.{degree_is}
 use Rattle.std.proofs.lemmas.Int.{ints}
-use Rattle.equation_file.specs.declared.equation.Equation.{Equation}
-use Rattle.equation_file.specs.Accepted.{IsEquation}
+use Rattle.equations.specs.declared.equation.Equation.{Equation}
+use Rattle.equations.specs.Accepted.{IsEquation}
 use Rattle.ordered_lists.specs.Members.{IsIn}
 use Rattle.ordered_lists.proofs.Subs.{sub_skip, sub_refl}
 use Rattle.plain_trees.specs.Plain.{Plain, graft, edge_count_of, decoration_sum_of, root_of}

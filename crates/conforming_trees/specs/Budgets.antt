@@ -17,12 +17,13 @@
 use Rattle.std.specs.Prelude.{◌≡◌, ◌≢◌, ◌≤◌, ℕ, ◌+◌, List, [], ◌∷◌, ◌++◌, length, sum, slice_index_or}
 use Rattle.std.specs.declared.cmp.Ordering.TheVariants.{Greater}
 use Rattle.std.specs.declared.option.Option.TheVariants.{Some}
+use Rattle.limits.specs.declared.TheConstants.{MOST_EDGES, MOST_LISTED_DECORATIONS}
 use Rattle.degree_numbers.specs.declared.degree.Degree.{Degree}
 use Rattle.degree_numbers.specs.declared.types.Types.{Types}
 use Rattle.degree_numbers.specs.declared.types.Kind.TheVariants.{Noise, Kernel}
 use Rattle.degree_numbers.specs.Degree.{degree_order, degree_plus, degree_zero}
 use Rattle.degree_numbers.specs.Types.{type_degree, kind_of}
-use Rattle.equation_file.specs.declared.equation.Equation.{Equation}
+use Rattle.equations.specs.declared.equation.Equation.{Equation}
 use Rattle.ordered_lists.specs.Members.{IsIn}
 use Rattle.plain_trees.specs.Plain.{Plain, bare, graft, edge_count_of, decoration_sum_of, root_of}
 use Rattle.plain_trees.specs.Building.{zeros}
@@ -41,8 +42,8 @@ derivative_sum [] = 0
 derivative_sum (e ∷ es) = sum e.1 + derivative_sum es
 
 pub record IsUsable (es : List EdgeLabel) : Type 0 where
-  pub edges : length es ≤ 24
-  pub derivatives : derivative_sum es ≤ 64
+  pub edges : length es ≤ MOST_EDGES
+  pub derivatives : derivative_sum es ≤ MOST_LISTED_DECORATIONS
 
 abbrev pub low_at : List Degree → ℕ → Degree
 low_at lows k = slice_index_or lows k degree_zero
@@ -95,8 +96,8 @@ pub record IsShaped (eq : Equation) (rule : Rule) (row : RuleRow) (t : Plain) : 
   pub types : HasTypes eq.types t
   pub root : Allows row t
   pub above : ConformsAbove eq.types rule t
-  pub edges : edge_count_of t ≤ 24
-  pub decorations : decoration_sum_of t ≤ 64
+  pub edges : edge_count_of t ≤ MOST_EDGES
+  pub decorations : decoration_sum_of t ≤ MOST_LISTED_DECORATIONS
 
 pub record IsStem (eq : Equation) (rule : Rule) (lows : List Degree) (mosts : List Degree) (row : RuleRow) (t : Plain) : Type 0 where
   pub shaped : IsShaped eq rule row t

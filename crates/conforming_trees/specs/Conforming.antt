@@ -11,27 +11,21 @@
 --   IsAllowedAtRoot rule t == it is in the rule of some kernel
 --   ConformsAbove ty rule t == above each edge of t stands a node type that the rule of its type allows
 --   IsConforming ty rule t == so it is, and the node type at the root is in the rule of some kernel: t strongly conforms to the rule
---   HasDirections dims rows == the derivative decorations of the rows are 0 past the directions
---   IsRule eq rule == a normal rule over the types of eq, one row for each kernel
+--   HasDirections dims rows, IsRule eq rule == a rule over the types of eq: the notions of normal_rule, for use with it
 use Rattle.std.specs.Prelude.{◌≡◌, ℕ, List, [], ◌∷◌, ◌⊎◌, ⊤, map, if◌then◌else◌, Some}
-use Rattle.std.specs.List.{All}
 use Rattle.std.specs.Ordering.{nat_cmp, ordering_then, is_gt}
 use Rattle.std.specs.Cmp.Lexicographic.{slice_cmp}
 use Rattle.std.specs.declared.cmp.Ordering.{Ordering}
 use Rattle.degree_numbers.specs.declared.types.Types.{Types}
 use Rattle.degree_numbers.specs.declared.types.Kind.TheVariants.{Noise}
 use Rattle.degree_numbers.specs.Types.{kind_of}
-use Rattle.equation_file.specs.declared.equation.Equation.{Equation}
 use Rattle.ordered_lists.specs.Members.{IsIn}
 use Rattle.plain_trees.specs.Plain.{Plain, bare, graft}
-use Rattle.plain_trees.specs.Degree.{IsMultiIndex}
 use Rattle.normal_rule.specs.declared.rule.EdgeType.{EdgeType}
 use Rattle.normal_rule.specs.declared.rule.NodeType.{NodeType}
 use Rattle.normal_rule.specs.declared.rule.RuleRow.{RuleRow}
 use Rattle.normal_rule.specs.declared.rule.Rule.{Rule}
-use Rattle.normal_rule.specs.Regularity.{HasRows}
-use Rattle.normal_rule.specs.Rule.{IsNormal}
-use Rattle.normal_rule.specs.Text.{AreKnown}
+pub use Rattle.normal_rule.specs.OverTypes.{HasDirections, IsRule}
 
 abbrev pub EdgeLabel : Type 0
 EdgeLabel = ℕ × List ℕ
@@ -78,12 +72,3 @@ ConformsAbove ty rule (graft k p c t) = IsAllowedAbove ty rule k c × ConformsAb
 pub record IsConforming (ty : Types) (rule : Rule) (t : Plain) : Type 0 where
   pub root : IsAllowedAtRoot rule t
   pub above : ConformsAbove ty rule t
-
-abbrev pub HasDirections : ℕ → List RuleRow → Type 0
-HasDirections dims rows = All (λ row. All (λ n. All (λ e. IsMultiIndex dims e.p.entries) n.edges) row.nodes) rows
-
-pub record IsRule (eq : Equation) (rule : Rule) : Type 0 where
-  pub normal : IsNormal rule
-  pub rows : HasRows eq rule
-  pub known : AreKnown eq.types rule.rows
-  pub directions : HasDirections eq.types.dims rule.rows

@@ -15,9 +15,10 @@ use Rattle.std.specs.declared.cmp.Ordering.{Ordering}
 use Rattle.std.specs.declared.cmp.Ordering.TheVariants.{Less, Greater}
 use Rattle.std.specs.declared.option.Option.{Option}
 use Rattle.std.specs.declared.option.Option.TheVariants.{Some, None}
+use Rattle.limits.specs.declared.TheConstants.{MOST_EDGES, MOST_LISTED_DECORATIONS, MOST_LISTED_TREES}
 use Rattle.degree_numbers.specs.declared.types.Types.{Types}
 use Rattle.degree_numbers.specs.Degree.{degree_order, degree_zero}
-use Rattle.equation_file.specs.declared.equation.Equation.{Equation}
+use Rattle.equations.specs.declared.equation.Equation.{Equation}
 use Rattle.ordered_lists.specs.Members.{IsIn}
 use Rattle.plain_trees.specs.Plain.{Plain, edge_count_of, decoration_sum_of, tree_order}
 use Rattle.plain_trees.specs.Canon.{IsCanonical}
@@ -41,7 +42,7 @@ pub record IsZero (eq : Equation) (rule : Rule) (t : Plain) : Type 0 where
   pub zero : degree_of eq.types t ≡ degree_zero
 
 abbrev pub IsTooLarge : Plain → Type 0
-IsTooLarge t = (24 < edge_count_of t) ⊎ (64 < decoration_sum_of t)
+IsTooLarge t = (MOST_EDGES < edge_count_of t) ⊎ (MOST_LISTED_DECORATIONS < decoration_sum_of t)
 
 abbrev pub listing_order : Types → Plain → Plain → Ordering
 listing_order ty = then_cmp (on (degree_of ty) degree_order) tree_order
@@ -58,9 +59,9 @@ IsFirstZero eq rule (Some z) = IsZero eq rule z × ((t : Plain) → IsZero eq ru
 pub record HasTooManyTrees (eq : Equation) (rule : Rule) : Type 0 where
   pub trees : List Plain
   pub ascending : IsStrictlySortedBy (listing_order eq.types) trees
-  pub many : 4000 < length trees
+  pub many : MOST_LISTED_TREES < length trees
   pub listed : (t : Plain) → IsIn t trees → IsListed eq rule t
-  pub fit : (t : Plain) → IsIn t trees → (edge_count_of t ≤ 24) × (decoration_sum_of t ≤ 64)
+  pub fit : (t : Plain) → IsIn t trees → (edge_count_of t ≤ MOST_EDGES) × (decoration_sum_of t ≤ MOST_LISTED_DECORATIONS)
 
 pub record HasTooLargeTree (eq : Equation) (rule : Rule) : Type 0 where
   pub tree : Plain

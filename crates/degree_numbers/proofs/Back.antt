@@ -1,5 +1,6 @@
 -- What is printed of a degree is read back.
 use Rattle.std.proofs.Common.{◌≡◌, ℕ, ◌*◌, ◌/◌, ◌<◌, ◌≤◌, ◌^◌, Bool, true, false, nat_lt, ℤ, pos, negsuc, unsigned_abs, List, [], ◌∷◌, ◌++◌, decimal, arith, refl, ap, sym, ◌∙◌, subst, Some, None, Option, eqb-true, append_assoc, append-nil}
+use Rattle.std.proofs.lemmas.Bool.{and_parts}
 use Rattle.std.specs.Prelude.{◌==◌, ◌&&◌, if◌then◌else◌, codes}
 use Rattle.std.specs.Char.{is_ascii_digit}
 use Rattle.text_parts.specs.Reading.{◌>>=◌, mark_at, number_at, nonzero_after}
@@ -99,17 +100,13 @@ sign_follows : (negative : Bool) (text : List ℕ) → Follows false ((if negati
 sign_follows true text = record { stops = (refl, refl); no_slash = mark_other 47 45 text refl; factor = no_factor _ (mark_other 42 45 text refl) }
 sign_follows false text = record { stops = (refl, refl); no_slash = mark_other 47 43 text refl; factor = no_factor _ (mark_other 42 43 text refl) }
 
-both_true : (p q : Bool) → (p && q) ≡ true → (p ≡ true) × (q ≡ true)
-both_true true q h = (refl, h)
-both_true false q h = absurd cc
-
 same_part : (negative : Bool) (b : Fraction) → b.num ≡ 1 → b.den ≡ 1 → as_part negative (record { negative = negative; num = 1; den = 1 }) true ≡ as_part negative b true
 same_part negative b num den = rw (num, den) refl
 
 k_back : (negative : Bool) (b : Fraction) → Fits b → part_at negative (k_text b) ≡ Some (as_part negative b true, [])
 k_back negative b fits =
     (elim (b.num == 1 && b.den == 1) as (λ c. (b.num == 1 && b.den == 1) ≡ c → part_at negative (if c then codes "k" else fraction_text b ++ codes "*k") ≡ Some (as_part negative b true, [])) [
-      | true ↦ λ one. let ones = both_true (b.num == 1) (b.den == 1) one in k_alone negative ∙ ap (λ p. Some (p, [])) (same_part negative b (eqb-true b.num 1 ones.0) (eqb-true b.den 1 ones.1))
+      | true ↦ λ one. let ones = and_parts (b.num == 1) (b.den == 1) one in k_alone negative ∙ ap (λ p. Some (p, [])) (same_part negative b (eqb-true b.num 1 ones.0) (eqb-true b.den 1 ones.1))
       | false ↦ λ other. part_back negative true b (42 ∷ 107 ∷ []) [] fits star_follows
     ]) refl
 

@@ -1,7 +1,7 @@
 -- The definition is evaluated, and like terms are collected.
 use Rattle.std.proofs.Common.{◌≡◌, ℤ, List, [], ◌∷◌, refl, sym, ap, ◌∙◌}
 use Rattle.std.specs.List.{AllByRecursion}
-use Rattle.equation_file.specs.declared.Equation.{Equation}
+use Rattle.equations.specs.declared.Equation.{Equation}
 use Rattle.plain_trees.specs.Plain.{Plain}
 use Rattle.symbol_polys.specs.Polynomials.{PlainTerm, coefficient_of, HaveSameCoefficients}
 use Rattle.symbol_polys.proofs.LinearLaws.{normal, coefficient_of-normal}

@@ -14,7 +14,7 @@
 --   AreRows eq rows == the definition gives each of the trees its differential, at the kernel of the one unknown
 use Rattle.std.specs.Prelude.{ℕ, ℤ, pos, neg_ℤ, List, [], ◌∷◌, map}
 use Rattle.std.specs.List.{AllByRecursion}
-use Rattle.equation_file.specs.declared.Equation.{Equation}
+use Rattle.equations.specs.declared.Equation.{Equation}
 use Rattle.plain_trees.specs.Plain.{Plain, bare, graft}
 use Rattle.symbol_polys.specs.Symbols.{variable}
 use Rattle.symbol_polys.specs.Polynomials.{PlainTerm, HaveSameCoefficients}

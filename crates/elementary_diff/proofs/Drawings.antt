@@ -4,7 +4,7 @@ use Rattle.std.proofs.lemmas.List.{length-map}
 use Rattle.exact_sums.specs.Sums.{total}
 use Rattle.exact_sums.proofs.SumLaws.{total-scale}
 use Rattle.multiplicities.specs.Distinct.{distinct_by, AreDistinct}
-use Rattle.multiplicities.specs.Factorial.{factorial}
+use Rattle.exact_sums.specs.Binomials.{factorial}
 use Rattle.multiplicities.proofs.DistinctLists.{distinct_map, distinct_flat_map, length-flat_map, from_distinct, in_distinct, distinct_distinct, distinct_length}
 use Rattle.multiplicities.proofs.Grouping.{total_multiplicities}
 use Rattle.ordered_lists.specs.Members.{IsIn}

@@ -1,7 +1,7 @@
 -- The denominator of an elementary differential.
 use Rattle.std.proofs.Common.{◌≡◌, ℕ, ◌*◌, ◌^◌, ◌<◌, ◌==◌, cond, refl, ap, ◌∙◌, arith}
 use Rattle.std.proofs.lemmas.Bool.Decides.{nat_tests}
-use Rattle.equation_file.specs.declared.Equation.{Equation}
+use Rattle.equations.specs.declared.Equation.{Equation}
 use Rattle.exact_sums.specs.Saturating.{overflow, saturated, saturating_times}
 use Rattle.exact_sums.proofs.SaturatingLaws.{saturated_in_range, saturating_times_saturated}
 use Rattle.plain_trees.specs.Plain.{Plain}

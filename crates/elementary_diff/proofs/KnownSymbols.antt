@@ -13,11 +13,11 @@ use Rattle.degree_numbers.specs.declared.Kind.{Kind}
 use Rattle.degree_numbers.specs.declared.Kind.TheVariants.{Noise, Kernel}
 use Rattle.degree_numbers.specs.Multi.{is_zero}
 use Rattle.degree_numbers.specs.Types.{kind_of}
-use Rattle.equation_file.specs.Accepted.{IsEquation, IsUnknown, IsRightTerm, IsFactor}
-use Rattle.equation_file.specs.EdgeTypes.{EdgeType}
-use Rattle.equation_file.specs.declared.Equation.{Equation}
-use Rattle.equation_file.specs.declared.RightTerm.{RightTerm}
-use Rattle.equation_file.specs.declared.Unknown.{Unknown}
+use Rattle.equations.specs.Accepted.{IsEquation, IsUnknown, IsRightTerm, IsFactor}
+use Rattle.equations.specs.EdgeTypes.{EdgeType}
+use Rattle.equations.specs.declared.Equation.{Equation}
+use Rattle.equations.specs.declared.RightTerm.{RightTerm}
+use Rattle.equations.specs.declared.Unknown.{Unknown}
 use Rattle.plain_trees.specs.Plain.{Plain, bare, graft, root_of}
 use Rattle.plain_trees.specs.Degree.{HasTypes, IsMultiIndex}
 use Rattle.symbol_polys.specs.Symbols.{PlainSymbol, parameter, variable, noise, tree, expectation, symbol_order, IsMonomial}
@@ -85,7 +85,7 @@ module _ (ty : Types) (ps : List (List ℕ)) where
       at : (o : Option Kind) → kind_of ty f.0.0 ≡ o → IsKnown ty ps (symbol_by o f.0.0 f.1.entries)
       at None e = absurd (no-kind ty.list f.0.0 h.known e)
       at (Some Noise) e = e
-      at (Some Kernel) e = (e, h.within)
+      at (Some Kernel) e = (e, λ i le. zero-at ty.dims i f.1.entries h.derivative.rest le)
 
   known-with : (s : PlainSymbol) (m : List PlainSymbol) → Known s → AllByRecursion Known m → AllByRecursion Known (with_symbol s m)
   known-with s m h a = all-monomial_product Known (s ∷ []) m (h, tt) a

@@ -12,7 +12,7 @@ use Rattle.degree_numbers.specs.declared.Kind.{Kind}
 use Rattle.degree_numbers.specs.declared.Kind.TheVariants.{Noise, Kernel}
 use Rattle.degree_numbers.specs.Multi.{is_zero}
 use Rattle.degree_numbers.specs.Types.{kind_of}
-use Rattle.equation_file.specs.declared.Equation.{Equation}
+use Rattle.equations.specs.declared.Equation.{Equation}
 use Rattle.plain_trees.specs.Plain.{Plain, bare, graft, root_of}
 use Rattle.symbol_polys.specs.Symbols.{PlainSymbol, parameter, variable, noise, tree, expectation, symbol_order}
 use Rattle.symbol_polys.specs.Polynomials.{PlainTerm, size_of}

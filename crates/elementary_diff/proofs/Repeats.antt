@@ -4,7 +4,7 @@ use Rattle.std.specs.Ordering.{is_eq}
 use Rattle.std.specs.Bool.{Decides}
 use Rattle.std.proofs.lemmas.Cmp.{tied_itself}
 use Rattle.std.proofs.lemmas.Grind.{common_steps}
-use Rattle.multiplicities.specs.Factorial.{factorial}
+use Rattle.exact_sums.specs.Binomials.{factorial}
 use Rattle.multiplicities.proofs.Factorials.{factorial_most}
 use Rattle.ordered_lists.specs.Subs.{count_of}
 use Rattle.ordered_lists.proofs.Unique.{own}

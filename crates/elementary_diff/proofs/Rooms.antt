@@ -7,18 +7,19 @@ use Rattle.std.proofs.lemmas.Int.{unsigned_abs-mul}
 use Rattle.std.proofs.lemmas.List.{length-map}
 use Rattle.std.proofs.lemmas.List.Elements.{All-head, All-tail}
 use Rattle.exact_sums.specs.Saturating.{overflow}
-use Rattle.multiplicities.specs.Factorial.{factorial}
-use Rattle.multiplicities.proofs.Factorials.{factorial-suc, factorial_pos, factorial_most}
+use Rattle.exact_sums.specs.Binomials.{factorial}
+use Rattle.exact_sums.proofs.MultinomialLaws.{factorial_pos}
+use Rattle.multiplicities.proofs.Factorials.{factorial-suc, factorial_most}
 use Rattle.degree_numbers.specs.declared.Types.{Types}
 use Rattle.degree_numbers.specs.declared.Kind.{Kind}
 use Rattle.degree_numbers.specs.declared.Kind.TheVariants.{Noise, Kernel}
 use Rattle.degree_numbers.specs.Multi.{is_zero}
 use Rattle.degree_numbers.specs.Types.{kind_of}
-use Rattle.equation_file.specs.declared.Equation.{Equation}
-use Rattle.equation_file.specs.declared.RightTerm.{RightTerm}
-use Rattle.equation_file.specs.declared.Unknown.{Unknown}
-use Rattle.equation_file.specs.Accepted.{IsRightTerm, IsUnknown, IsEquation}
-use Rattle.equation_file.specs.EdgeTypes.{EdgeType}
+use Rattle.equations.specs.declared.Equation.{Equation}
+use Rattle.equations.specs.declared.RightTerm.{RightTerm}
+use Rattle.equations.specs.declared.Unknown.{Unknown}
+use Rattle.equations.specs.Accepted.{IsRightTerm, IsUnknown, IsEquation}
+use Rattle.equations.specs.EdgeTypes.{EdgeType}
 use Rattle.plain_trees.specs.Canon.{IsCanonical}
 use Rattle.plain_trees.specs.Plain.{bare, IsSmall}
 use Rattle.symbol_polys.specs.Symbols.{PlainSymbol, parameter, variable, noise, symbol_order, HasBoundedTree, IsMonomial}

@@ -5,7 +5,7 @@ use Rattle.std.proofs.lemmas.Nat.{mul-le}
 use Rattle.std.specs.Ordering.{is_eq}
 use Rattle.exact_sums.specs.Sums.{product_over}
 use Rattle.multiplicities.specs.Distinct.{with_new, distinct_by}
-use Rattle.multiplicities.specs.Factorial.{factorial}
+use Rattle.exact_sums.specs.Binomials.{factorial}
 use Rattle.multiplicities.proofs.Grouping.{power_product, power_product-cons}
 use Rattle.multiplicities.proofs.Factorials.{factorial-suc, factorials_within}
 use Rattle.ordered_lists.specs.Subs.{count_of}

@@ -2,7 +2,7 @@
 use Rattle.std.proofs.Common.{◌≡◌, ℕ, ◌+◌, Bool, true, false, cond, List, [], ◌∷◌, ℤ, pos, ◌+ℤ◌, unsigned_abs, refl, sym, ap, ◌∙◌, arith}
 use Rattle.std.specs.Ordering.{is_eq}
 use Rattle.std.proofs.lemmas.Int.{ints}
-use Rattle.equation_file.specs.declared.Equation.{Equation}
+use Rattle.equations.specs.declared.Equation.{Equation}
 use Rattle.plain_trees.specs.Plain.{Plain}
 use Rattle.symbol_polys.specs.Symbols.{PlainSymbol, monomial_order}
 use Rattle.symbol_polys.specs.Polynomials.{PlainTerm, coefficient_of, size_of, HaveSameCoefficients}

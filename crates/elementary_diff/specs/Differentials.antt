@@ -25,10 +25,10 @@ use Rattle.degree_numbers.specs.declared.Kind.{Kind}
 use Rattle.degree_numbers.specs.declared.Kind.TheVariants.{Noise, Kernel}
 use Rattle.degree_numbers.specs.Multi.{is_zero}
 use Rattle.degree_numbers.specs.Types.{kind_of}
-use Rattle.equation_file.specs.declared.Equation.{Equation}
-use Rattle.equation_file.specs.declared.RightTerm.{RightTerm}
-use Rattle.equation_file.specs.declared.Unknown.{Unknown}
-use Rattle.equation_file.specs.EdgeTypes.{EdgeType}
+use Rattle.equations.specs.declared.Equation.{Equation}
+use Rattle.equations.specs.declared.RightTerm.{RightTerm}
+use Rattle.equations.specs.declared.Unknown.{Unknown}
+use Rattle.equations.specs.EdgeTypes.{EdgeType}
 use Rattle.plain_trees.specs.Plain.{Plain, bare, graft, root_of}
 use Rattle.symbol_polys.specs.Symbols.{PlainSymbol, parameter, variable, noise, rank}
 use Rattle.symbol_polys.specs.Polynomials.{PlainTerm, size_of}

@@ -4,7 +4,7 @@
 --   AreDrawings t ss == ss are the ordered trees whose canonical form is t, each once
 use Rattle.std.specs.Prelude.{◌≡◌, ◌↔◌, ℕ, ◌*◌, List, length}
 use Rattle.multiplicities.specs.Distinct.{AreDistinct}
-use Rattle.multiplicities.specs.Factorial.{factorial}
+use Rattle.exact_sums.specs.Binomials.{factorial}
 use Rattle.ordered_lists.specs.Members.{IsIn}
 use Rattle.plain_trees.specs.Plain.{Plain, bare, graft}
 use Rattle.plain_trees.specs.Canon.{canon}

@@ -3,7 +3,7 @@
 --   IsRefused eq k t r == why that differential is not given: its mass is out of range; its mass is not 0 and in range, and its denominator is out of range; or memory is wanted
 use Rattle.std.specs.Prelude.{ℕ, ◌<◌, ◌≤◌, ◌==◌, cond, ⊤}
 use Rattle.exact_sums.specs.Saturating.{overflow}
-use Rattle.equation_file.specs.declared.Equation.{Equation}
+use Rattle.equations.specs.declared.Equation.{Equation}
 use Rattle.plain_trees.specs.Plain.{Plain}
 use Rattle.elementary_diff.specs.Differentials.{differential_mass, denominator_of}
 use Rattle.elementary_diff.specs.declared.answer.DiffRefusal.{DiffRefusal}

@@ -5,7 +5,7 @@
 use Rattle.std.specs.Prelude.{◌<◌, ◌*◌, unsigned_abs, List, length}
 use Rattle.std.specs.List.{AllByRecursion}
 use Rattle.exact_sums.specs.Saturating.{overflow}
-use Rattle.multiplicities.specs.Factorial.{factorial}
+use Rattle.exact_sums.specs.Binomials.{factorial}
 use Rattle.symbol_polys.specs.Symbols.{IsMonomial}
 use Rattle.symbol_polys.specs.Polynomials.{PlainTerm}
 

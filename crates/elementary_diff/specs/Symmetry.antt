@@ -9,7 +9,7 @@ use Rattle.std.specs.Prelude.{ℕ, ◌*◌, ◌^◌, List, [], ◌∷◌}
 use Rattle.std.specs.declared.cmp.Ordering.{Ordering}
 use Rattle.exact_sums.specs.Sums.{product_over}
 use Rattle.multiplicities.specs.Distinct.{distinct_by}
-use Rattle.multiplicities.specs.Factorial.{factorial}
+use Rattle.exact_sums.specs.Binomials.{factorial}
 use Rattle.ordered_lists.specs.Subs.{count_of}
 use Rattle.plain_trees.specs.Plain.{Plain, bare, graft}
 use Rattle.plain_trees.specs.Canon.{Planted, planted_order}

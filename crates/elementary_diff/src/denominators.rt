@@ -1,6 +1,7 @@
 // The denominator of an elementary differential.
 ghost use Rattle.std.specs.Prelude.{◌≡◌, ◌<◌, ◌≤◌, length};
-ghost use Rattle.equation_file.specs.Accepted.{IsEquation};
+ghost use Rattle.limits.specs.declared.TheConstants.{MOST_EDGES};
+ghost use Rattle.equations.specs.Accepted.{IsEquation};
 ghost use Rattle.exact_sums.specs.Saturating.{saturated};
 ghost use Rattle.tree_pool.specs.Content.{tree_at};
 ghost use Rattle.elementary_diff.specs.Differentials.{kernel_edges, denominator_of};
@@ -8,7 +9,7 @@ ghost use Rattle.elementary_diff.specs.Differentials.{kernel_edges, denominator_
 use crate::symmetry_factors::symmetry;
 use crate::weights::{is_kernel, power};
 use degree_numbers::Types;
-use equation_file::Equation;
+use equations::Equation;
 use exact_sums::Saturated;
 use tree_pool::{Pool, TreeId};
 
@@ -16,7 +17,7 @@ use tree_pool::{Pool, TreeId};
 fn kernel_edges(types: &Types, pool: &Pool<'_>, id: TreeId) -> u32
     requires { id.0 < length pool.now.trees }
     ensures value { result ≡ kernel_edges types.now (tree_at pool.now id.0) }
-    ensures most { result ≤ 24 }
+    ensures most { result ≤ MOST_EDGES }
 {
     let (_, edges) = pool.node(id);
     let mut count = 0;

@@ -1,7 +1,7 @@
 // Elementary differentials.
 ghost use Rattle.std.specs.Prelude.{◌≡◌, ◌<◌, ◌≤◌, ◌≤ℤ◌, pos, [], length, IfSome, IfOk, IfErr, MatchOption};
 ghost use Rattle.std.specs.List.{AllByRecursion};
-ghost use Rattle.equation_file.specs.Accepted.{IsEquation};
+ghost use Rattle.equations.specs.Accepted.{IsEquation};
 ghost use Rattle.exact_sums.specs.Saturating.{overflow};
 ghost use Rattle.tree_pool.specs.Content.{tree_at};
 ghost use Rattle.symbol_polys.specs.Polynomials.{HaveSameCoefficients};
@@ -16,7 +16,7 @@ use crate::known_symbols::symbols_are_known;
 use crate::products::product;
 use crate::weights::mass;
 use degree_numbers::TypeId;
-use equation_file::Equation;
+use equations::Equation;
 use exact_sums::Saturated;
 use std::alloc::Global;
 use symbol_polys::zero;

@@ -1,7 +1,7 @@
 // The symbols of an elementary differential are those of the equation.
 ghost use Rattle.std.specs.Prelude.{◌≡◌, ◌<◌, map, length};
 ghost use Rattle.std.specs.List.{AllByRecursion};
-ghost use Rattle.equation_file.specs.Accepted.{IsEquation};
+ghost use Rattle.equations.specs.Accepted.{IsEquation};
 ghost use Rattle.tree_pool.specs.Content.{tree_at};
 ghost use Rattle.symbol_polys.specs.Polynomials.{HaveSameCoefficients};
 ghost use Rattle.symbol_polys.specs.Text.{IsTermOver};
@@ -10,7 +10,7 @@ ghost use Rattle.elementary_diff.specs.Differentials.{differential_terms};
 ghost use Rattle.elementary_diff.specs.Known.{IsFiveLong, AreFiveLong};
 
 use degree_numbers::{Multi, TypeId};
-use equation_file::Equation;
+use equations::Equation;
 use symbol_polys::{Poly, Symbol, Term};
 use tree_pool::{Pool, TreeId};
 

@@ -17,4 +17,5 @@ mod weights;
 pub use answer::{DiffRefusal, Differential};
 pub use differentials::differential;
 pub use ordering::ordering_law;
+pub use sides::side;
 pub use symmetry_factors::{symmetry, symmetry_law};

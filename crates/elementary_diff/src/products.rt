@@ -1,6 +1,6 @@
 // The elementary differential of a tree as a polynomial.
 ghost use Rattle.std.specs.Prelude.{◌≡◌, ◌<◌, ◌+◌, IsTrue, length, slice_index_or, IfOk, IsOkUnless};
-ghost use Rattle.equation_file.specs.Accepted.{IsEquation};
+ghost use Rattle.equations.specs.Accepted.{IsEquation};
 ghost use Rattle.exact_sums.specs.Saturating.{overflow};
 ghost use Rattle.tree_pool.specs.Content.{tree_at};
 ghost use Rattle.elementary_diff.specs.Differentials.{right_terms, differential_terms};
@@ -11,7 +11,7 @@ ghost use Rattle.elementary_diff.specs.Within.{IsSumWithin};
 use crate::root_factors::root_polynomial;
 use crate::weights::is_kernel;
 use degree_numbers::TypeId;
-use equation_file::Equation;
+use equations::Equation;
 use std::alloc::Global;
 use symbol_polys::{Poly, PolyError, mul, one};
 use tree_pool::{EdgeTo, Pool, TreeId};

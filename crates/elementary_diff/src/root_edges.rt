@@ -1,8 +1,9 @@
 // What the edges of a root leave of a right side.
 ghost use Rattle.std.specs.Prelude.{◌≡◌, ◌<◌, ◌≤◌, map, length, IfOk, IsOkUnless};
 ghost use Rattle.std.specs.List.{list_any};
+ghost use Rattle.limits.specs.declared.TheConstants.{MOST_EDGES};
 ghost use Rattle.plain_trees.specs.Plain.{edge_count_of};
-ghost use Rattle.equation_file.specs.Accepted.{IsEquation};
+ghost use Rattle.equations.specs.Accepted.{IsEquation};
 ghost use Rattle.tree_pool.specs.Content.{tree_at};
 ghost use Rattle.symbol_polys.specs.Symbols.{tree_in};
 ghost use Rattle.symbol_polys.specs.Derivatives.{derivatives};
@@ -12,13 +13,13 @@ ghost use Rattle.elementary_diff.specs.Room.{HaveRoom};
 
 use crate::sides::{keep, side};
 use degree_numbers::{Kind, TypeId, Types};
-use equation_file::Equation;
+use equations::Equation;
 use std::alloc::Global;
 use symbol_polys::{PolyError, Symbol, Term, derive_term};
 use tree_pool::{EdgeTo, Pool, TreeId};
 
 fn derivatives(alloc: Global, by: &Symbol, terms: &[Term]) -> Result<Vec<Term>, PolyError>
-    requires small { edge_count_of (tree_in (symbol_of by.now)) ≤ 24 }
+    requires small { edge_count_of (tree_in (symbol_of by.now)) ≤ MOST_EDGES }
     requires room { HaveRoom (terms_of terms.now) }
     ensures value { IfOk result (λ v. terms_of v.items ≡ derivatives (symbol_of by.now) (terms_of terms.now)) }
     ensures memory { IsOkUnless result PolyError.Memory }

@@ -1,7 +1,8 @@
 // The polynomial at the root of a tree.
 ghost use Rattle.std.specs.Prelude.{◌≡◌, ◌<◌, ◌≤◌, ◌≤ℤ◌, pos, sum, map, length, IfOk, IsOkUnless};
 ghost use Rattle.std.specs.List.{AllByRecursion};
-ghost use Rattle.equation_file.specs.Accepted.{IsEquation};
+ghost use Rattle.limits.specs.declared.TheConstants.{MOST_DECORATIONS, LARGEST_DERIVATIVE};
+ghost use Rattle.equations.specs.Accepted.{IsEquation};
 ghost use Rattle.exact_sums.specs.Saturating.{overflow};
 ghost use Rattle.tree_pool.specs.Content.{tree_at};
 ghost use Rattle.symbol_polys.specs.Symbols.{IsMonomial};
@@ -14,7 +15,7 @@ ghost use Rattle.elementary_diff.specs.Masses.{weight, root_mass};
 use crate::root_edges::left_at_root;
 use crate::total_derivatives::collected_derivative;
 use degree_numbers::{Multi, TypeId};
-use equation_file::Equation;
+use equations::Equation;
 use sqlite_items::Items;
 use std::alloc::Global;
 use symbol_polys::{Poly, PolyError, Term, sum_of_terms};
@@ -22,8 +23,8 @@ use tree_pool::{Pool, TreeId};
 
 // The total derivative in each direction, as often as the multiindex says. Like terms are collected after each.
 fn total_derivatives(alloc: Global, n: &Multi, left: Items<Term>) -> Result<Items<Term>, PolyError>
-    requires few { sum n.now.entries ≤ 4096 }
-    requires low { AreLow 8 (terms_of left) }
+    requires few { sum n.now.entries ≤ MOST_DECORATIONS }
+    requires low { AreLow LARGEST_DERIVATIVE (terms_of left) }
     requires fits { weight (sum n.now.entries) (terms_of left) < overflow }
     ensures monomials { IfOk result (λ ts. AllByRecursion IsMonomial (monomials (terms_of ts))) }
     ensures coefficients { IfOk result (λ ts. HaveSameCoefficients (terms_of ts) (total_derivatives 0 n.now.entries (terms_of left))) }

@@ -6,7 +6,7 @@ ghost use Rattle.symbol_polys.specs.View.{symbol_of, term_of, terms_of};
 ghost use Rattle.elementary_diff.specs.Differentials.{factor_symbol, right_term, right_terms};
 
 use degree_numbers::{Kind, Multi, TypeId, Types};
-use equation_file::{Equation, RightTerm};
+use equations::{Equation, RightTerm};
 use sqlite_items::Items;
 use std::alloc::{AllocError, Global};
 use symbol_polys::{PolyError, Symbol, Term, with_symbol};
@@ -87,7 +87,7 @@ fn right_terms(alloc: Global, types: &Types, right: &[RightTerm]) -> Result<Vec<
 }
 
 /// The terms of the right side of a kernel, cleared by the common denominator.
-pub(crate) fn side(alloc: Global, eq: &Equation, kernel: TypeId) -> Result<Vec<Term>, PolyError>
+pub fn side(alloc: Global, eq: &Equation, kernel: TypeId) -> Result<Vec<Term>, PolyError>
     ensures value { IfOk result (λ v. terms_of v.items ≡ right_terms eq.now kernel.0) }
     ensures memory { IsOkUnless result PolyError.Memory }
 {

@@ -1,8 +1,9 @@
 // Symmetry factors.
 ghost use Rattle.std.specs.Prelude.{◌≡◌, ◌<◌, ◌≤◌, ◌*◌, ◌^◌, filter, length};
+ghost use Rattle.limits.specs.declared.TheConstants.{MOST_EDGES};
 ghost use Rattle.exact_sums.specs.Sums.{product_over};
 ghost use Rattle.multiplicities.specs.Distinct.{distinct_by};
-ghost use Rattle.multiplicities.specs.Factorial.{factorial};
+ghost use Rattle.exact_sums.specs.Binomials.{factorial};
 ghost use Rattle.ordered_lists.specs.Subs.{count_of};
 ghost use Rattle.plain_trees.specs.Plain.{Plain};
 ghost use Rattle.plain_trees.specs.Canon.{planted_order};
@@ -24,7 +25,7 @@ fn multiplicity(edges: &[EdgeTo], e: &EdgeTo) -> u128
 pub fn symmetry(pool: &Pool<'_>, id: TreeId) -> u128
     requires { id.0 < length pool.now.trees }
     ensures value { result ≡ symmetry_of (tree_at pool.now id.0) }
-    ensures most { result ≤ factorial 24 }
+    ensures most { result ≤ factorial MOST_EDGES }
 {
     pool.laws();
     let (_, edges) = pool.node(id);

@@ -1,6 +1,6 @@
 // The mass of an elementary differential, which is decided before any polynomial is made.
 ghost use Rattle.std.specs.Prelude.{◌≡◌, ◌<◌, ◌*◌, ◌^◌, cond, map, length, unsigned_abs, IfOk, IsOkUnless};
-ghost use Rattle.equation_file.specs.Accepted.{IsEquation};
+ghost use Rattle.equations.specs.Accepted.{IsEquation};
 ghost use Rattle.exact_sums.specs.Saturating.{saturated};
 ghost use Rattle.degree_numbers.specs.Types.{kind_of};
 ghost use Rattle.plain_trees.specs.Plain.{root_of};
@@ -11,7 +11,7 @@ ghost use Rattle.elementary_diff.specs.Masses.{variable_count, weight, root_mass
 
 use crate::root_edges::left_at_root;
 use degree_numbers::{Kind, TypeId, Types};
-use equation_file::Equation;
+use equations::Equation;
 use exact_sums::Saturated;
 use std::alloc::Global;
 use symbol_polys::{PolyError, Symbol, Term};

@@ -9,7 +9,7 @@ use Rattle.std.proofs.lemmas.List.{length-append, length-map, append_assoc, appe
 use Rattle.toml.specs.Data.{Data, Items, no_items, item, Members, get_member, as_array, as_integer, as_str, as_table}
 use Rattle.degree_numbers.specs.DegreeText.{Written, written_of}
 use Rattle.degree_numbers.specs.Name.{is_name}
-use Rattle.degree_numbers.specs.Types.{AreNames}
+use Rattle.degree_numbers.specs.Types.{AreNames, IsMoments}
 use Rattle.degree_numbers.proofs.TypeBounds.{all_weaker}
 use Rattle.right_side_text.specs.Grammar.{right_side}
 use Rattle.right_side_text.specs.declared.written.WrittenFactor.{WrittenFactor}
@@ -18,7 +18,7 @@ use Rattle.equation_document.specs.DegreeEntry.{is_positive, is_standard}
 use Rattle.equation_document.specs.File.{reading}
 use Rattle.equation_document.specs.Limits.{limits_of}
 use Rattle.equation_document.specs.Names.{stands_in, is_known, are_known, noise_power, have_one_noise}
-use Rattle.equation_document.specs.Reading.{required, of_kind, of_value, of_name, of_degree, keys_of, version_of, whole, number_of, numbers_from, some_items, list_of, new_name, parameter_of, parameters_from, parameters_of, table_of, text_of, name_of, degree_of, group_of, noise_of, noises_from, noises_of, positive_of, standard_of, unknown_of, unknowns_from, known_terms, terms_of, right_of, rights_from, names_of, unknown_part, document_of}
+use Rattle.equation_document.specs.Reading.{required, of_kind, of_value, of_name, of_degree, keys_of, version_of, of_version, whole, natural, up_to, number_of, numbers_from, reflect_of, moments_of, some_items, list_of, new_name, parameter_of, parameters_from, parameters_of, table_of, text_of, name_of, degree_of, group_of, noise_of, noises_from, noises_of, positive_of, standard_of, unknown_of, unknowns_from, known_terms, terms_of, right_of, rights_from, names_of, directions_of, unknown_part, document_of}
 use Rattle.equation_document.specs.declared.document.Document.{Document}
 use Rattle.equation_document.specs.declared.document.NoiseEntry.{NoiseEntry}
 use Rattle.equation_document.specs.declared.document.UnknownEntry.{UnknownEntry}
@@ -30,6 +30,7 @@ use Rattle.equation_document.specs.declared.fault.Entry.{Entry}
 use Rattle.equation_document.specs.declared.fault.Entry.TheVariants.{File, Whole, Item, Part}
 use Rattle.equation_document.specs.declared.fault.Fault.{Fault}
 use Rattle.equation_document.specs.declared.fault.Fault.TheVariants.{Malformed}
+use Rattle.equation_document.specs.declared.versions.FileVersion.{FileVersion}
 use Rattle.equation_document.specs.declared.names.Names.{Names}
 use Rattle.equation_document.specs.declared.entries.KeySet.TheVariants as keys
 use Rattle.equation_document.proofs.DegreeFacts.{degree_read}
@@ -236,27 +237,48 @@ standard_read e key ms w h =
     let p = passed (is_standard d.0) d.0 w (Malformed e reasons.Value) d.2 in
     subst (λ x. IsDegreeRead x × (is_standard x ≡ true)) p.1 (degree_of_read e key ms d.0 d.1, p.0)
 
-unknown_read : (at : ℕ) (seen : List (List ℕ)) (d : Data) (u : UnknownEntry) → unknown_of at seen d ≡ Ok u → IsNew seen u.name × IsUnknownRead u
+up_to_most : (most : ℕ) (o : Option ℕ) (n : ℕ) → up_to most o ≡ Some n → n ≤ most
+up_to_most most None n h = none_some n h
+up_to_most most (Some m) n h =
+    elim (side_of (nat_le m most) (Some m) None (Some n) h) [
+      | inl p ↦ subst (λ x. x ≤ most) (same_some m n p.1) (tested_most m most p.0)
+      | inr p ↦ none_some n p.1
+    ]
+  where
+    tested_most : (m most : ℕ) → nat_le m most ≡ true → m ≤ most
+    tested_most m most h = grind (arith, nat_tests)
+
+moments_read : (e : Entry) (version : FileVersion) (d : Option Data) (r : Option ℕ) → moments_of e version d ≡ Ok r → IsMoments r
+unfolding moments_of
+moments_read e version None r h = subst IsMoments (same_value None r h) tt
+moments_read e version (Some d) r h =
+    let later = bind_ok (of_version e version) _ r h in
+    let z = bind_ok (of_kind e (as_integer d)) _ r later.2 in
+    let n = bind_ok (of_value e (up_to 20 (natural z.0))) _ r z.2 in
+    subst IsMoments (same_value (Some n.0) r n.2) (up_to_most 20 (natural z.0) n.0 (is_value e (up_to 20 (natural z.0)) n.0 n.1))
+
+unknown_read : (version : FileVersion) (at : ℕ) (seen : List (List ℕ)) (d : Data) (u : UnknownEntry) → unknown_of version at seen d ≡ Ok u → IsNew seen u.name × IsUnknownRead u
 unfolding unknown_of
-unknown_read at seen d u h =
+unknown_read version at seen d u h =
     let ms = bind_ok (table_of Unknown keys.OfUnknown at d) _ u h in
     let name = bind_ok (name_of Unknown at seen ms.0) _ u ms.2 in
     let degree = bind_ok (positive_of (Part Unknown at fields.Degree) (codes "degree") ms.0) _ u name.2 in
     let regularity = bind_ok (standard_of (Part Unknown at fields.Regularity) (codes "regularity") ms.0) _ u degree.2 in
-    let made : UnknownEntry = record { name = name.0; degree = degree.0; regularity = regularity.0 } in
+    let moments = bind_ok (moments_of (Part Unknown at fields.Moments) version (get_member (codes "moments") ms.0)) _ u regularity.2 in
+    let made : UnknownEntry = record { name = name.0; degree = degree.0; regularity = regularity.0; moments = moments.0 } in
     let d_read = positive_read (Part Unknown at fields.Degree) (codes "degree") ms.0 degree.0 degree.1 in
     let r_read = standard_read (Part Unknown at fields.Regularity) (codes "regularity") ms.0 regularity.0 regularity.1 in
-    let is : IsUnknownRead made = record { degree = d_read.0; positive = d_read.1; regularity = r_read.0; standard = r_read.1 } in
-    subst (λ x. IsNew seen x.name × IsUnknownRead x) (same_value made u regularity.2) (name_new Unknown at seen ms.0 name.0 name.1, is)
+    let is : IsUnknownRead made = record { degree = d_read.0; positive = d_read.1; regularity = r_read.0; standard = r_read.1; moments = moments_read (Part Unknown at fields.Moments) version (get_member (codes "moments") ms.0) moments.0 moments.1 } in
+    subst (λ x. IsNew seen x.name × IsUnknownRead x) (same_value made u moments.2) (name_new Unknown at seen ms.0 name.0 name.1, is)
 
-unknowns_read : (at : ℕ) (seen : List (List ℕ)) (found : List UnknownEntry) (ds : Items) (r : List (List ℕ) × List UnknownEntry) → AreNames seen → unknowns_from at seen found ds ≡ Ok r → AreMore unknown_name IsUnknownRead seen found (count ds) r
+unknowns_read : (version : FileVersion) (at : ℕ) (seen : List (List ℕ)) (found : List UnknownEntry) (ds : Items) (r : List (List ℕ) × List UnknownEntry) → AreNames seen → unknowns_from version at seen found ds ≡ Ok r → AreMore unknown_name IsUnknownRead seen found (count ds) r
 unfolding unknowns_from
-unknowns_read at seen found no_items r are h = subst (AreMore unknown_name IsUnknownRead seen found 0) (same_value (seen, found) r h) (none_more unknown_name IsUnknownRead seen found are)
-unknowns_read at seen found (item d ds) r are h =
-    let u = bind_ok (unknown_of at seen d) _ r h in
-    let is = unknown_read at seen d u.0 u.1 in
+unknowns_read version at seen found no_items r are h = subst (AreMore unknown_name IsUnknownRead seen found 0) (same_value (seen, found) r h) (none_more unknown_name IsUnknownRead seen found are)
+unknowns_read version at seen found (item d ds) r are h =
+    let u = bind_ok (unknown_of version at seen d) _ r h in
+    let is = unknown_read version at seen d u.0 u.1 in
     one_more unknown_name IsUnknownRead seen found (count ds) r u.0 is.1
-    (unknowns_read (at + 1) (seen ++ u.0.name ∷ []) (found ++ u.0 ∷ []) ds r (more_names seen u.0.name are is.0) u.2)
+    (unknowns_read version (at + 1) (seen ++ u.0.name ∷ []) (found ++ u.0 ∷ []) ds r (more_names seen u.0.name are is.0) u.2)
 
 both : (a b : Bool) → (a && b) ≡ true → (a ≡ true) × (b ≡ true)
 both true b h = (refl, h)
@@ -316,15 +338,25 @@ in_three all first second middle last s a =
     let front : take (length first) all ≡ first = ap (take (length first)) whole ∙ take-append_seam first (middle ++ last) in
     whole ∙ ap (λ x. x ++ (middle ++ last)) (sym front)
 
-part_read : (scaling : List ℕ) (parameters : List (List ℕ)) (noises : List (List ℕ) × List NoiseEntry) (ds : Items) (n : ℕ) (doc : Document) → 0 < length scaling → AllByRecursion (λ s. 0 < s) scaling → 0 < count ds → AreMore noise_name IsNoiseKept parameters [] n noises → unknown_part scaling (length parameters) noises ds ≡ Ok doc → IsRead doc
+directions_read : (version : FileVersion) (ms : Members) (r : List ℕ × List ℕ) → directions_of version ms ≡ Ok r → (0 < length r.0) × AllByRecursion (λ s. 0 < s) r.0
+unfolding directions_of
+directions_read version ms r h =
+    let b1 = bind_ok (list_of Scaling (codes "scaling") ms) _ r h in
+    let b2 = bind_ok (numbers_from 1 [] b1.0) _ r b1.2 in
+    let b3 = bind_ok (reflect_of version (length b2.0) (get_member (codes "reflect") ms)) _ r b2.2 in
+    let numbers = numbers_above 1 [] b1.0 b2.0 tt b2.1 in
+    let some = list_counted Scaling (codes "scaling") ms b1.0 b1.1 in
+    subst (λ x. (0 < length x.0) × AllByRecursion (λ s. 0 < s) x.0) (same_value (b2.0, b3.0) r b3.2) (omega (arith, numbers.1, some), numbers.0)
+
+part_read : (version : FileVersion) (directions : List ℕ × List ℕ) (parameters : List (List ℕ)) (noises : List (List ℕ) × List NoiseEntry) (ds : Items) (n : ℕ) (doc : Document) → 0 < length directions.0 → AllByRecursion (λ s. 0 < s) directions.0 → 0 < count ds → AreMore noise_name IsNoiseKept parameters [] n noises → unknown_part version directions (length parameters) noises ds ≡ Ok doc → IsRead doc
 unfolding unknown_part
-part_read scaling parameters noises ds n doc dims above some ns h =
-    let u = bind_ok (unknowns_from 1 noises.0 [] ds) _ doc h in
+part_read version directions parameters noises ds n doc dims above some ns h =
+    let u = bind_ok (unknowns_from version 1 noises.0 [] ds) _ doc h in
     let names = names_of u.0.0 (length parameters) (length noises.0) in
-    let r = bind_ok (rights_from names (length scaling) 1 [] ds) _ doc u.2 in
-    let made : Document = record { scaling = scaling; names = names; noises = noises.1; unknowns = u.0.1; rights = r.0 } in
-    let us : AreMore unknown_name IsUnknownRead noises.0 [] (count ds) u.0 = unknowns_read 1 noises.0 [] ds u.0 ns.names u.1 in
-    let rs = rights_read names (length scaling) 1 [] ds r.0 tt r.1 in
+    let r = bind_ok (rights_from names (length directions.0) 1 [] ds) _ doc u.2 in
+    let made : Document = record { scaling = directions.0; reflect = directions.1; names = names; noises = noises.1; unknowns = u.0.1; rights = r.0 } in
+    let us : AreMore unknown_name IsUnknownRead noises.0 [] (count ds) u.0 = unknowns_read version 1 noises.0 [] ds u.0 ns.names u.1 in
+    let rs = rights_read names (length directions.0) 1 [] ds r.0 tt r.1 in
     let noises_are : noises.1 ≡ ns.more = ns.entries in
     let unknowns_are : u.0.1 ≡ us.more = us.entries in
     let noise_names : noises.0 ≡ parameters ++ map noise_name noises.1 = ns.named ∙ ap (λ x. parameters ++ map noise_name x) (sym noises_are) in
@@ -354,15 +386,13 @@ unfolding document_of
 document_is_read ms doc h =
     let b1 = bind_ok (keys_of File keys.Top ms) _ doc h in
     let b2 = bind_ok (version_of ms) _ doc b1.2 in
-    let b3 = bind_ok (list_of Scaling (codes "scaling") ms) _ doc b2.2 in
-    let b4 = bind_ok (numbers_from 1 [] b3.0) _ doc b3.2 in
-    let b5 = bind_ok (parameters_of (get_member (codes "parameters") ms)) _ doc b4.2 in
+    let b3 = bind_ok (directions_of b2.0 ms) _ doc b2.2 in
+    let b5 = bind_ok (parameters_of (get_member (codes "parameters") ms)) _ doc b3.2 in
     let b6 = bind_ok (noises_of b5.0 (get_member (codes "noise") ms)) _ doc b5.2 in
     let b7 = bind_ok (list_of Unknown (codes "unknown") ms) _ doc b6.2 in
-    let numbers = numbers_above 1 [] b3.0 b4.0 tt b4.1 in
-    let some = list_counted Scaling (codes "scaling") ms b3.0 b3.1 in
+    let directions = directions_read b2.0 ms b3.0 b3.1 in
     let noises = noises_of_read b5.0 (get_member (codes "noise") ms) b6.0 (parameters_of_named (get_member (codes "parameters") ms) b5.0 b5.1) b6.1 in
-    part_read b4.0 b5.0 b6.0 b7.0 noises.0 doc (omega (arith, numbers.1, some)) numbers.0 (list_counted Unknown (codes "unknown") ms b7.0 b7.1) noises.1 b7.2
+    part_read b2.0 b3.0 b5.0 b6.0 b7.0 noises.0 doc directions.0 directions.1 (list_counted Unknown (codes "unknown") ms b7.0 b7.1) noises.1 b7.2
 
 -- what is read of bytes is so, and passes no limit
 pub read_is_read : (bytes : List ℕ) (doc : Document) → reading bytes ≡ Ok doc → IsRead doc × (limits_of doc ≡ Ok tt)

@@ -4,12 +4,12 @@
 --   IsFactorRead names dims f == the name of f is known, its derivative has no entry or one for each dimension, its power is not 0
 --   IsTermRead names dims t == so is each factor of t, the denominator of its coefficient is not 0, and t has at most one noise
 --   IsRead doc == the scaling is not empty and has no 0; the names are names, all different: parameters, noises, unknowns; groups are names;
---     degrees are read; kernel degrees are above 0 and have, as the regularities, no k part; there is an unknown, and a right side for each, of terms that are read
+--     degrees are read; kernel degrees are above 0 and have, as the regularities, no k part; moment numbers are at most 20; there is an unknown, and a right side for each, of terms that are read
 use Rattle.std.specs.Prelude.{ℕ, ◌≡◌, ◌≤◌, ◌<◌, ◌+◌, ◌⊎◌, true, ◌++◌, length, map, take, None}
 use Rattle.std.specs.List.{AllByRecursion}
 use Rattle.degree_numbers.specs.DegreeText.{Written}
 use Rattle.degree_numbers.specs.Name.{is_name}
-use Rattle.degree_numbers.specs.Types.{AreNames}
+use Rattle.degree_numbers.specs.Types.{AreNames, IsMoments}
 use Rattle.right_side_text.specs.declared.written.WrittenFactor.{WrittenFactor}
 use Rattle.right_side_text.specs.declared.written.WrittenTerm.{WrittenTerm}
 use Rattle.equation_document.specs.declared.document.Document.{Document}
@@ -41,6 +41,7 @@ pub record IsUnknownRead (u : UnknownEntry) : Type 0 where
   pub positive : is_positive u.degree ≡ true
   pub regularity : IsDegreeRead u.regularity
   pub standard : is_standard u.regularity ≡ true
+  pub moments : IsMoments u.moments
 
 pub record IsRead (doc : Document) : Type 0 where
   pub dims : 0 < length doc.scaling

@@ -11,10 +11,11 @@ use Rattle.equation_document.specs.Counted.{AreCounted}
 use Rattle.equation_document.specs.File.{accepted, table_document, reading}
 use Rattle.equation_document.specs.Gives.{Gives}
 use Rattle.equation_document.specs.Limits.{limits_of}
-use Rattle.equation_document.specs.Reading.{◌>>=◌, of_kind, keys_of, version_of, list_of, numbers_from, parameters_of, noise_of, noises_from, noises_of, unknown_of, unknowns_from, rights_from, unknown_part, document_of, names_of}
-use Rattle.equation_document.specs.declared.fault.Section.TheVariants.{Scaling, Noise, Unknown}
+use Rattle.equation_document.specs.Reading.{◌>>=◌, of_kind, keys_of, version_of, list_of, directions_of, parameters_of, noise_of, noises_from, noises_of, unknown_of, unknowns_from, rights_from, unknown_part, document_of, names_of}
+use Rattle.equation_document.specs.declared.fault.Section.TheVariants.{Noise, Unknown}
 use Rattle.equation_document.specs.declared.fault.Entry.TheVariants.{File, Whole}
 use Rattle.equation_document.specs.declared.entries.KeySet.TheVariants as keys
+use Rattle.equation_document.specs.declared.versions.FileVersion.{FileVersion}
 use Rattle.equation_document.specs.declared.document.Document.{Document}
 use Rattle.equation_document.specs.declared.document.NoiseEntry.{NoiseEntry}
 use Rattle.equation_document.specs.declared.document.UnknownEntry.{UnknownEntry}
@@ -45,12 +46,12 @@ noises_counted at seen found (item d ds) r h =
     let rest = noises_counted (at + 1) (seen ++ b.0.name ∷ []) (found ++ b.0 ∷ []) ds r b.2 in
     omega (arith, rest, length-append seen (b.0.name ∷ []), length-append found (b.0 ∷ []))
 
-pub unknowns_counted : (at : ℕ) (seen : List (List ℕ)) (found : List UnknownEntry) (ds : Items) (r : List (List ℕ) × List UnknownEntry) → unknowns_from at seen found ds ≡ Ok r → length r.0 + length found ≡ length seen + length r.1
+pub unknowns_counted : (version : FileVersion) (at : ℕ) (seen : List (List ℕ)) (found : List UnknownEntry) (ds : Items) (r : List (List ℕ) × List UnknownEntry) → unknowns_from version at seen found ds ≡ Ok r → length r.0 + length found ≡ length seen + length r.1
 unfolding unknowns_from
-unknowns_counted at seen found no_items r h = let e = same_value (seen, found) r h in subst (λ x. length x.0 + length found ≡ length seen + length x.1) e refl
-unknowns_counted at seen found (item d ds) r h =
-    let b = bind_ok (unknown_of at seen d) _ r h in
-    let rest = unknowns_counted (at + 1) (seen ++ b.0.name ∷ []) (found ++ b.0 ∷ []) ds r b.2 in
+unknowns_counted version at seen found no_items r h = let e = same_value (seen, found) r h in subst (λ x. length x.0 + length found ≡ length seen + length x.1) e refl
+unknowns_counted version at seen found (item d ds) r h =
+    let b = bind_ok (unknown_of version at seen d) _ r h in
+    let rest = unknowns_counted version (at + 1) (seen ++ b.0.name ∷ []) (found ++ b.0 ∷ []) ds r b.2 in
     omega (arith, rest, length-append seen (b.0.name ∷ []), length-append found (b.0 ∷ []))
 
 pub noises_of_counted : (seen : List (List ℕ)) (d : Option Data) (r : List (List ℕ) × List NoiseEntry) → noises_of seen d ≡ Ok r → length r.0 ≡ length seen + length r.1
@@ -60,14 +61,14 @@ noises_of_counted seen (Some d) r h =
     let b = bind_ok (of_kind (Whole Noise) (as_array d)) (noises_from 1 seen []) r h in
     omega (arith, noises_counted 1 seen [] b.0 r b.2)
 
-part_counted : (scaling : List ℕ) (n : ℕ) (noises : List (List ℕ) × List NoiseEntry) (ds : Items) (doc : Document) → length noises.0 ≡ n + length noises.1 → unknown_part scaling n noises ds ≡ Ok doc → AreCounted doc
+part_counted : (version : FileVersion) (directions : List ℕ × List ℕ) (n : ℕ) (noises : List (List ℕ) × List NoiseEntry) (ds : Items) (doc : Document) → length noises.0 ≡ n + length noises.1 → unknown_part version directions n noises ds ≡ Ok doc → AreCounted doc
 unfolding unknown_part
-part_counted scaling n noises ds doc c h =
-    let u = bind_ok (unknowns_from 1 noises.0 [] ds) _ doc h in
+part_counted version directions n noises ds doc c h =
+    let u = bind_ok (unknowns_from version 1 noises.0 [] ds) _ doc h in
     let names = names_of u.0.0 n (length noises.0) in
-    let r = bind_ok (rights_from names (length scaling) 1 [] ds) _ doc u.2 in
-    let made : Document = record { scaling = scaling; names = names; noises = noises.1; unknowns = u.0.1; rights = r.0 } in
-    let more : length u.0.0 + 0 ≡ length noises.0 + length u.0.1 = unknowns_counted 1 noises.0 [] ds u.0 u.1 in
+    let r = bind_ok (rights_from names (length directions.0) 1 [] ds) _ doc u.2 in
+    let made : Document = record { scaling = directions.0; reflect = directions.1; names = names; noises = noises.1; unknowns = u.0.1; rights = r.0 } in
+    let more : length u.0.0 + 0 ≡ length noises.0 + length u.0.1 = unknowns_counted version 1 noises.0 [] ds u.0 u.1 in
     let last : length u.0.0 ≡ length noises.0 + length u.0.1 = omega (arith, more) in
     let is : AreCounted made = record { noises = c; unknowns = last } in
     subst AreCounted (same_value made doc r.2) is
@@ -77,12 +78,11 @@ unfolding document_of
 counted ms doc h =
     let b1 = bind_ok (keys_of File keys.Top ms) _ doc h in
     let b2 = bind_ok (version_of ms) _ doc b1.2 in
-    let b3 = bind_ok (list_of Scaling (codes "scaling") ms) _ doc b2.2 in
-    let b4 = bind_ok (numbers_from 1 [] b3.0) _ doc b3.2 in
-    let b5 = bind_ok (parameters_of (get_member (codes "parameters") ms)) _ doc b4.2 in
+    let b3 = bind_ok (directions_of b2.0 ms) _ doc b2.2 in
+    let b5 = bind_ok (parameters_of (get_member (codes "parameters") ms)) _ doc b3.2 in
     let b6 = bind_ok (noises_of b5.0 (get_member (codes "noise") ms)) _ doc b5.2 in
     let b7 = bind_ok (list_of Unknown (codes "unknown") ms) _ doc b6.2 in
-    part_counted b4.0 (length b5.0) b6.0 b7.0 doc (noises_of_counted b5.0 (get_member (codes "noise") ms) b6.0 b6.1) b7.2
+    part_counted b2.0 b3.0 (length b5.0) b6.0 b7.0 doc (noises_of_counted b5.0 (get_member (codes "noise") ms) b6.0 b6.1) b7.2
 
 pub accepted_parts : (ms : Members) (doc : Document) → accepted ms ≡ Ok doc → (document_of ms ≡ Ok doc) × (limits_of doc ≡ Ok tt)
 unfolding accepted

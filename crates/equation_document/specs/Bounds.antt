@@ -5,6 +5,7 @@
 --   most_names == parameters, and noises, and unknowns
 --   largest_number == a written number
 --   largest_degree == the size of the standard part or of the k part of a degree
+--   largest_moment == a moment number of a kernel
 --   largest_denominator == a least common denominator
 --   most_terms == terms of a right side
 --   most_factors == factors of a term, counted with their powers
@@ -28,6 +29,9 @@ largest_number = 1000000
 
 abbrev pub largest_degree : ℕ
 largest_degree = 20
+
+abbrev pub largest_moment : ℕ
+largest_moment = 20
 
 abbrev pub largest_denominator : ℕ
 largest_denominator = 1000000

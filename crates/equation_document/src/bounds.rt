@@ -19,6 +19,9 @@ pub const LARGEST_DEGREE: u64 = 20;
 /// A least common denominator.
 pub const LARGEST_DENOMINATOR: u64 = 1_000_000;
 
+/// A moment number of a kernel.
+pub const LARGEST_MOMENT: u64 = 20;
+
 /// Terms of a right side.
 pub const MOST_TERMS: u64 = 64;
 

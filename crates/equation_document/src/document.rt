@@ -13,18 +13,21 @@ pub struct NoiseEntry {
     pub group: Name,
 }
 
-/// An unknown as a file writes it, without its right side.
+/// An unknown as a file writes it, without its right side. With moment number r, its kernel integrates polynomials of scaled degree up to r to zero.
 #[derive(Debug, Drop)]
 pub struct UnknownEntry {
     pub name: Name,
     pub degree: DegreeEntry,
     pub regularity: DegreeEntry,
+    pub moments: Option<u8>,
 }
 
-/// What a file holds: its scaling, all its names, its noises, its unknowns and their right sides, in file order.
+/// What a file holds: its scaling, the directions that may be reflected, counted from 1, all its names, its noises, its unknowns and their right sides, in file
+/// order.
 #[derive(Debug, Drop)]
 pub struct Document {
     pub scaling: Items<u64>,
+    pub reflect: Items<u64>,
     pub names: Names,
     pub noises: Items<NoiseEntry>,
     pub unknowns: Items<UnknownEntry>,

@@ -40,13 +40,18 @@ fn is_key(set: KeySet, key: &str) -> bool
         KeySet::Top => {
             key == "noise"
                 || key == "parameters"
+                || key == "reflect"
                 || key == "scaling"
                 || key == "unknown"
                 || key == "version"
         }
         KeySet::OfNoise => key == "degree" || key == "group" || key == "name",
         KeySet::OfUnknown => {
-            key == "degree" || key == "name" || key == "regularity" || key == "right"
+            key == "degree"
+                || key == "moments"
+                || key == "name"
+                || key == "regularity"
+                || key == "right"
         }
     }
 }

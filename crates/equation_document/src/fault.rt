@@ -9,6 +9,7 @@ use std::alloc::{AllocError, AllocFailed};
 pub enum Section {
     Version,
     Scaling,
+    Reflect,
     Parameters,
     Noise,
     Unknown,
@@ -21,6 +22,7 @@ pub enum Field {
     Degree,
     Group,
     Regularity,
+    Moments,
     Right,
 }
 
@@ -46,7 +48,7 @@ pub enum Reason {
     Key,
     /// It is no name.
     Name,
-    /// It is a name that stands earlier in the file.
+    /// It is a name that stands earlier in the file, or a direction that stands earlier in its list.
     Repeated,
     /// It is no degree text.
     Degree,
@@ -54,6 +56,8 @@ pub enum Reason {
     Polynomial,
     /// A term has more than one noise, counted with powers.
     Noise,
+    /// It may not stand in a file of version 1.
+    Version,
 }
 
 /// What is limited.

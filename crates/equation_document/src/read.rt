@@ -10,7 +10,7 @@ ghost use Rattle.equation_document.specs.Limits.{limits_of};
 use crate::bounds::MOST_BYTES;
 use crate::document::Document;
 use crate::fault::{Fault, ReadError, Which};
-use crate::limits::limits_of;
+use crate::passed_limits::limits_of;
 use crate::tables::document_of;
 use std::alloc::Global;
 use toml::Table;

@@ -2,7 +2,7 @@
 ghost use Rattle.std.specs.Prelude.{◌≡◌, ℕ, List, [], length, codes, option_map};
 ghost use Rattle.toml.specs.View.{view, items_view, table_view};
 ghost use Rattle.equation_document.specs.Gives.{Gives};
-ghost use Rattle.equation_document.specs.Reading.{version_of, whole, number_of, numbers_from, parameter_of, parameters_from, parameters_of, group_of, noise_of, noises_from, noises_of, positive_of, standard_of, unknown_of, unknowns_from, unknown_part, document_of};
+ghost use Rattle.equation_document.specs.Reading.{number_of, numbers_from, parameter_of, parameters_from, parameters_of, group_of, noise_of, noises_from, noises_of, positive_of, standard_of, unknown_of, unknowns_from, directions_of, unknown_part, document_of};
 
 use crate::degree_entry::DegreeEntry;
 use crate::document::{Document, NoiseEntry, UnknownEntry};
@@ -12,10 +12,18 @@ use crate::entries::{
 use crate::fault::{Entry, Field, ReadError, Reason, Section};
 use crate::names::Names;
 use crate::rights::rights_from;
+use crate::versions::{FileVersion, moments_of, reflect_of, version_of, whole};
 use degree_numbers::Name;
 use sqlite_items::Items;
 use std::alloc::Global;
 use toml::{Table, Value};
+
+/// The scaling, and the directions that may be reflected.
+#[derive(Debug, Drop)]
+struct Directions {
+    scaling: Items<u64>,
+    reflect: Items<u64>,
+}
 
 /// Names seen so far, and the noises found so far.
 #[derive(Debug, Drop)]
@@ -29,30 +37,6 @@ struct FoundNoises {
 struct FoundUnknowns {
     seen: Items<Name>,
     found: Items<UnknownEntry>,
-}
-
-#[tactic(auto, unfolding(crate::specs::Reading::version_of))]
-fn version_of(table: &Table) -> Result<i64, ReadError>
-    ensures { Gives (λ n. n) result (version_of (table_view table.now)) }
-{
-    let entry = Entry::Whole(Section::Version);
-    let Some(value) = value_at(table, "version") else {
-        return Err(malformed(entry, Reason::Missing));
-    };
-    let Some(version) = value.as_integer() else {
-        return Err(malformed(entry, Reason::Kind));
-    };
-    if version == 1 {
-        Ok(version)
-    } else {
-        Err(malformed(entry, Reason::Value))
-    }
-}
-
-fn whole(n: i64) -> Option<u64>
-    ensures { result ≡ whole n }
-{
-    if n >= 1 { Some(n as u64) } else { None }
 }
 
 #[tactic(auto, unfolding(crate::specs::Reading::number_of))]
@@ -78,6 +62,20 @@ fn numbers_from(alloc: Global, values: &[Value]) -> Result<Items<u64>, ReadError
         found.push(number)?;
     }
     Ok(found)
+}
+
+#[tactic(auto, unfolding(crate::specs::Reading::directions_of))]
+fn directions_of(
+    alloc: Global,
+    version: FileVersion,
+    table: &Table,
+) -> Result<Directions, ReadError>
+    ensures { Gives (λ d. (d.scaling, d.reflect)) result (directions_of version (table_view table.now)) }
+{
+    let numbers = list_of(Section::Scaling, "scaling", table)?;
+    let scaling = numbers_from(alloc, numbers)?;
+    let reflect = reflect_of(alloc, version, scaling.len(), value_at(table, "reflect"))?;
+    Ok(Directions { scaling, reflect })
 }
 
 #[tactic(auto, unfolding(crate::specs::Reading::parameter_of))]
@@ -207,8 +205,13 @@ fn standard_of(entry: Entry, key: &str, table: &Table) -> Result<DegreeEntry, Re
 }
 
 #[tactic(auto, unfolding(crate::specs::Reading::unknown_of))]
-fn unknown_of(at: usize, seen: &[Name], value: &Value) -> Result<UnknownEntry, ReadError>
-    ensures { Gives (λ u. u) result (unknown_of at seen.now (view value.now)) }
+fn unknown_of(
+    version: FileVersion,
+    at: usize,
+    seen: &[Name],
+    value: &Value,
+) -> Result<UnknownEntry, ReadError>
+    ensures { Gives (λ u. u) result (unknown_of version at seen.now (view value.now)) }
 {
     let table = table_of(Section::Unknown, KeySet::OfUnknown, at, value)?;
     let name = name_of(Section::Unknown, at, seen, table)?;
@@ -222,24 +225,31 @@ fn unknown_of(at: usize, seen: &[Name], value: &Value) -> Result<UnknownEntry, R
         "regularity",
         table,
     )?;
+    let moments = moments_of(
+        Entry::Part(Section::Unknown, at, Field::Moments),
+        version,
+        value_at(table, "moments"),
+    )?;
     Ok(UnknownEntry {
         name,
         degree,
         regularity,
+        moments,
     })
 }
 
 fn unknowns_from(
     alloc: Global,
+    version: FileVersion,
     seen: Items<Name>,
     values: &[Value],
 ) -> Result<FoundUnknowns, ReadError>
-    ensures { Gives (λ v. (v.seen, v.found)) result (unknowns_from 1 seen [] (items_view values.now)) }
+    ensures { Gives (λ v. (v.seen, v.found)) result (unknowns_from version 1 seen [] (items_view values.now)) }
 {
     let mut seen = seen;
     let mut found = Items::new(alloc);
     for (i, value) in values.iter().enumerate() {
-        let unknown = unknown_of(i + 1, seen.as_slice(), value)?;
+        let unknown = unknown_of(version, i + 1, seen.as_slice(), value)?;
         seen.push(unknown.name)?;
         found.push(unknown)?;
     }
@@ -249,23 +259,25 @@ fn unknowns_from(
 #[tactic(auto, unfolding(crate::specs::Reading::unknown_part))]
 fn unknown_part(
     alloc: Global,
-    scaling: Items<u64>,
+    version: FileVersion,
+    directions: Directions,
     parameters: usize,
     noises: FoundNoises,
     values: &[Value],
 ) -> Result<Document, ReadError>
-    ensures { Gives (λ d. d) result (unknown_part scaling parameters (noises.seen, noises.found) (items_view values.now)) }
+    ensures { Gives (λ d. d) result (unknown_part version (directions.scaling, directions.reflect) parameters (noises.seen, noises.found) (items_view values.now)) }
 {
     let first_unknown = noises.seen.len();
-    let unknowns = unknowns_from(alloc, noises.seen, values)?;
+    let unknowns = unknowns_from(alloc, version, noises.seen, values)?;
     let names = Names {
         list: unknowns.seen,
         first_noise: parameters,
         first_unknown,
     };
-    let rights = rights_from(alloc, &names, scaling.len(), values)?;
+    let rights = rights_from(alloc, &names, directions.scaling.len(), values)?;
     Ok(Document {
-        scaling,
+        scaling: directions.scaling,
+        reflect: directions.reflect,
         names,
         noises: noises.found,
         unknowns: unknowns.found,
@@ -279,12 +291,11 @@ pub fn document_of(alloc: Global, table: &Table) -> Result<Document, ReadError>
     ensures { Gives (λ d. d) result (document_of (table_view table.now)) }
 {
     let _known = keys_of(Entry::File, KeySet::Top, table)?;
-    let _version = version_of(table)?;
-    let numbers = list_of(Section::Scaling, "scaling", table)?;
-    let scaling = numbers_from(alloc, numbers)?;
+    let version = version_of(table)?;
+    let directions = directions_of(alloc, version, table)?;
     let parameters = parameters_of(alloc, value_at(table, "parameters"))?;
     let count = parameters.len();
     let noises = noises_of(alloc, parameters, value_at(table, "noise"))?;
     let unknowns = list_of(Section::Unknown, "unknown", table)?;
-    unknown_part(alloc, scaling, count, noises, unknowns)
+    unknown_part(alloc, version, directions, count, noises, unknowns)
 }

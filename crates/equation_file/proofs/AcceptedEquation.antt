@@ -14,10 +14,10 @@ use Rattle.equation_document.specs.Limits.{units_of, denominator_of, limits_of}
 use Rattle.equation_document.proofs.DocumentFacts.{read_is_read}
 use Rattle.equation_document.proofs.DocumentRead.{IsRead}
 use Rattle.equation_document.proofs.LimitFacts.{is_within}
-use Rattle.equation_file.specs.declared.equation.Equation.{Equation}
-use Rattle.equation_file.specs.declared.equation.Unknown.{Unknown}
+use Rattle.equations.specs.declared.equation.Equation.{Equation}
+use Rattle.equations.specs.declared.equation.Unknown.{Unknown}
 use Rattle.equation_file.specs.declared.refusal.FileRefusal.{FileRefusal}
-use Rattle.equation_file.specs.Accepted.{IsUnknown, IsEquation}
+use Rattle.equations.specs.Accepted.{IsUnknown, IsEquation}
 use Rattle.equation_file.specs.File.{told, equation_of}
 use Rattle.equation_file.specs.Refusals.{IsAnswer}
 use Rattle.equation_file.specs.Meaning.{types_of, equation_in, document_equation}

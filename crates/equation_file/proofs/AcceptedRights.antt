@@ -3,6 +3,7 @@
 --   IsProduct ty count p == a written term within the limits, with its parameters and its factors in order
 --   IsRight ty count ts == at most 64 terms, each of which IsRightTerm
 use Rattle.std.proofs.Common.{◌≡◌, ◌≢◌, ℕ, zero, suc, ◌+◌, ◌-◌, ◌*◌, ◌<◌, ◌≤◌, ◌⊎◌, ⊎_elim, inl, inr, min, Bool, true, false, true≢false, not, cond, ◌&&◌, ◌||◌, ◌==◌, nat_lt, nat_le, if◌then◌else◌, List, [], ◌∷◌, ◌++◌, map, length, take, filter, fold, slice_index, All, ℤ, pos, ◌-ℤ◌, unsigned_abs, int_eq, nat_cmp, None, Ok, refl, sym, ap, subst, ◌∙◌, arith, length-append, le_trans, div-le_self, mul-le-mul}
+use Rattle.std.proofs.lemmas.Bool.{and_parts}
 use Rattle.std.specs.Bool.{beq}
 use Rattle.std.specs.Cmp.{nat_cmp_total}
 use Rattle.std.specs.List.{AllByRecursion, list_any, range_with_len}
@@ -30,15 +31,16 @@ use Rattle.equation_document.specs.Terms.{term_number, power_of, term_factors, f
 use Rattle.equation_document.proofs.DocumentRead.{IsFactorRead, IsTermRead, IsRead}
 use Rattle.equation_document.proofs.FirstOfLemmas.{neither, within, none_index}
 use Rattle.equation_document.proofs.LimitFacts.{is_within}
-use Rattle.equation_file.specs.declared.equation.RightTerm.{RightTerm}
+use Rattle.equations.specs.declared.equation.RightTerm.{RightTerm}
 use Rattle.equation_file.specs.declared.product.Product.{Product}
-use Rattle.equation_file.specs.Accepted.{IsFactor, IsRightTerm}
+use Rattle.equations.specs.Accepted.{IsFactor, IsRightTerm}
 use Rattle.equation_file.specs.Collect.{same, with_new, different, size, sum_under, coefficient_of, collected}
-use Rattle.equation_file.specs.EdgeTypes.{EdgeType, edge_type_order}
+use Rattle.equations.specs.EdgeTypes.{EdgeType, edge_type_order}
 use Rattle.equation_file.specs.Meaning.{groups_of, noise_type, kernel_type, type_list, types_of, unknowns_from, equation_in}
 use Rattle.equation_file.specs.Products.{placed_often, five, is_parameter, edge_type_of, with_parameter, with_factor, product_of, products}
 use Rattle.equation_file.proofs.AcceptedTypes.{noise_count_is}
-use Rattle.equation_file.proofs.EdgeTypeLaws.{edge_type_order_total}
+use Rattle.equations.proofs.Directions.{zeros_behind}
+use Rattle.equations.proofs.EdgeTypeLaws.{edge_type_order_total}
 use Rattle.equation_file.proofs.PlacedLaws.{Rises, rises_often, all_often, length_often, count_often, sorted_from}
 
 pub record Fits (ty : Types) (names : Names) : Type 0 where
@@ -70,10 +72,6 @@ at_most n m e = grind (arith, nat_tests)
 
 is_zero : (n : ℕ) → (n == 0) ≡ true → n ≡ 0
 is_zero n e = grind (arith, nat_tests)
-
-both : (a b : Bool) → (a && b) ≡ true → (a ≡ true) × (b ≡ true)
-both true b h = (refl, h)
-both false b h = search
 
 either : (a b : Bool) → (a || b) ≡ true → (a ≡ true) ⊎ (b ≡ true)
 either true b h = inl refl
@@ -107,13 +105,13 @@ no_noise p a u c le after is h = omega (arith, le, after, is, h)
 
 factor_is : (ty : Types) (names : Names) (f : WrittenFactor) → Fits ty names → IsFactorRead names ty.dims f → factor_derivative f ≡ None → is_parameter names f ≡ false → IsFactor ty (edge_type_of names f)
 factor_is ty names f fits read small out =
-    let known = both (stands_in names.list f.name) ((length f.entries == 0) || nat_le names.first_unknown (place_of names.list f.name)) read.known in
+    let known = and_parts (stands_in names.list f.name) ((length f.entries == 0) || nat_le names.first_unknown (place_of names.list f.name)) read.known in
     let le : names.first_noise ≤ place_of names.list f.name = not_below (place_of names.list f.name) names.first_noise out in
     let lt : place_of names.list f.name < length names.list = below (place_of names.list f.name) (length names.list) known.0 in
     record {
       known = in_list (place_of names.list f.name) names.first_noise (length names.list) (length ty.list) le lt fits.all;
       small = five_small f.entries small;
-      within = λ i past. five_past f.entries ty.dims i (short (length f.entries) ty.dims read.entries) past;
+      derivative = record { entries = refl; rest = zeros_behind (five f.entries) ty.dims (λ i past. five_past f.entries ty.dims i (short (length f.entries) ty.dims read.entries) past) };
       noise = λ is. ⊎_elim
           (λ e. no_entries f.entries (is_zero (length f.entries) e))
           (λ e. absurd (no_noise (place_of names.list f.name) names.first_noise names.first_unknown (noise_count ty) le (at_most names.first_unknown (place_of names.list f.name) e) fits.unknowns is))

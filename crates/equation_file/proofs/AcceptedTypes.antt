@@ -16,9 +16,10 @@ use Rattle.equation_document.proofs.Everywhere.{all_mapped, all_both, all_none}
 use Rattle.equation_document.proofs.FirstOfLemmas.{neither, within}
 use Rattle.equation_document.proofs.LeastCommon.{least_above}
 use Rattle.equation_document.proofs.LimitFacts.{is_within}
-use Rattle.equation_file.specs.Meaning.{groups_of, noise_type, kernel_type, types_of}
+use Rattle.equation_file.specs.Meaning.{groups_of, is_written, noise_type, kernel_type, types_of}
 use Rattle.equation_file.specs.Products.{five}
 use Rattle.equation_file.proofs.ClearedDegrees.{AreCleared, IsUnknownFit, units_clear, noise_entry, kernel_entry, regularity_fits}
+use Rattle.equation_file.proofs.DirectionLemmas.{directions_kept}
 use Rattle.equation_file.proofs.GroupLemmas.{later_names, groups_named, in_order}
 
 pub units_above : (doc : Document) → 0 < units_of doc
@@ -175,4 +176,5 @@ accepted_types doc read limits =
       names = later_names (take doc.names.first_noise doc.names.list) (map (λ (e : TypeEntry). e.name) (types_of l doc).list) (all_names doc read);
       groups = groups_named doc.noises [] (record { are_names = tt; different = tt }) read.groups;
       numbered = subst (λ es. AreInOrder 0 (map (λ (e : TypeEntry). e.group) es) (length gs)) (sym (noise_list l doc)) (in_order l doc.noises []);
+      reflected = directions_kept (is_written doc.reflect) 0 (length doc.scaling) (length doc.scaling) (omega arith);
     }

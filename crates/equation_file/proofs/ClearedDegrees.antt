@@ -1,5 +1,6 @@
 -- The units of a document clear all its degrees, and a file can write what they become.
 use Rattle.std.proofs.Common.{◌≡◌, ℕ, ◌==◌, ◌<◌, ◌≤◌, Bool, true, false, not, List, [], ◌∷◌, ◌++◌, map, fold, None, pos, refl, arith}
+use Rattle.std.proofs.lemmas.Bool.{not-true}
 use Rattle.std.specs.List.{AllByRecursion}
 use Rattle.std.proofs.lemmas.Bool.Decides.{nat_tests}
 use Rattle.text_parts.specs.Reading.{most}
@@ -80,10 +81,6 @@ twice : (b : Bool) → not (not b) ≡ true → b ≡ true
 twice true h = refl
 twice false h = h
 
-once : (b : Bool) → not b ≡ true → b ≡ false
-once true h = search
-once false h = refl
-
 above_of : (n : ℕ) → (n == 0) ≡ false → 0 < n
 above_of n e = grind (arith, nat_tests)
 
@@ -93,7 +90,7 @@ without_k l w read cleared standard = in_units_zero l w.with_k read.k_above clea
 pub noise_entry : (l : ℕ) (gs : List (List ℕ)) (n : NoiseEntry) → IsDegreeRead n.degree → AreCleared l n.degree → noise_number n ≡ None → noise_size n ≡ None → IsNoiseEntry l (noise_type l gs n)
 noise_entry l gs n read cleared none size =
     let d = degree_writable l n.degree read cleared none size in
-    record { kind = refl; a = d.0; b = d.1 }
+    record { kind = refl; a = d.0; b = d.1; moments = refl }
 
 -- what is known of an unknown of a file that is accepted
 pub record IsUnknownFit (l : ℕ) (u : UnknownEntry) : Type 0 where
@@ -114,9 +111,10 @@ kernel_entry l u above h =
     record {
       kind = refl;
       a = d.0;
-      above = in_units_above l u.degree.plain above h.degree.0 (above_of u.degree.plain.num (once (u.degree.plain.num == 0) signs.0)) (once u.degree.plain.negative signs.1);
+      above = in_units_above l u.degree.plain above h.degree.0 (above_of u.degree.plain.num (not-true (u.degree.plain.num == 0) signs.0)) (not-true u.degree.plain.negative signs.1);
       without_k = without_k l u.degree read.degree h.degree positive.0;
       group = refl;
+      moments = read.moments;
     }
 
 pub regularity_fits : (l : ℕ) (u : UnknownEntry) → IsUnknownFit l u → IsWritable l (degree_in l u.regularity).a × ((degree_in l u.regularity).b ≡ pos 0)

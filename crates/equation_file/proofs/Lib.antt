@@ -2,7 +2,7 @@ pub mod AcceptedEquation
 pub mod AcceptedRights
 pub mod AcceptedTypes
 pub mod ClearedDegrees
-pub mod EdgeTypeLaws
+pub mod DirectionLemmas
 pub mod GroupLemmas
 pub mod PlacedLaws
 pub mod PlacedLemmas

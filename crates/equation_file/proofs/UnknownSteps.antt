@@ -3,7 +3,7 @@ use Rattle.std.proofs.Common.{◌≡◌, ℕ, ◌≤◌, min, List, [], ◌∷�
 use Rattle.right_side_text.specs.declared.written.WrittenTerm.{WrittenTerm}
 use Rattle.equation_document.specs.declared.document.UnknownEntry.{UnknownEntry}
 use Rattle.equation_document.specs.declared.names.Names.{Names}
-use Rattle.equation_file.specs.declared.equation.Unknown.{Unknown}
+use Rattle.equations.specs.declared.equation.Unknown.{Unknown}
 use Rattle.equation_file.specs.Meaning.{unknowns_from}
 
 ends : (l q : ℕ) (names : Names) (k : ℕ) (us : List UnknownEntry) (rights : List (List WrittenTerm)) → min (length us) (length rights) ≡ 0 → unknowns_from l q names k us rights ≡ []

@@ -10,9 +10,9 @@ use Rattle.std.specs.Bool.{beq}
 use Rattle.std.specs.Cmp.Lexicographic.{slice_cmp}
 use Rattle.std.specs.Ordering.{nat_cmp, is_eq, int_eq}
 use Rattle.std.specs.List.{filter, list_any}
-use Rattle.equation_file.specs.declared.equation.RightTerm.{RightTerm}
+use Rattle.equations.specs.declared.equation.RightTerm.{RightTerm}
 use Rattle.equation_file.specs.declared.product.Product.{Product}
-use Rattle.equation_file.specs.EdgeTypes.{node_type_order}
+use Rattle.equations.specs.EdgeTypes.{node_type_order}
 
 abbrev pub same : Product → Product → Bool
 same p q = is_eq (slice_cmp nat_cmp p.parameters q.parameters) && is_eq (node_type_order p.factors q.factors)

@@ -1,6 +1,4 @@
-pub mod Accepted
 pub mod Collect
-pub mod EdgeTypes
 pub mod File
 pub mod Meaning
 pub mod Products

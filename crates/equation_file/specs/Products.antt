@@ -18,7 +18,7 @@ use Rattle.right_side_text.specs.declared.written.WrittenTerm.{WrittenTerm}
 use Rattle.equation_document.specs.declared.names.Names.{Names}
 use Rattle.equation_document.specs.Names.{place_of}
 use Rattle.equation_file.specs.declared.product.Product.{Product}
-use Rattle.equation_file.specs.EdgeTypes.{EdgeType, edge_type_order}
+use Rattle.equations.specs.EdgeTypes.{EdgeType, edge_type_order}
 
 abbrev pub placed : {X : Type 0} → (X → X → Ordering) → List X → X → List X
 placed c xs x =

@@ -13,13 +13,14 @@ use Rattle.equation_document.specs.declared.fault.Entry.{Entry}
 use Rattle.equation_document.specs.declared.fault.Entry.TheVariants.{File, Whole, Item, Part}
 use Rattle.equation_document.specs.declared.fault.Fault.{Fault}
 use Rattle.equation_document.specs.declared.fault.Fault.TheVariants as faults
-use Rattle.equation_file.specs.declared.equation.Equation.{Equation}
+use Rattle.equations.specs.declared.equation.Equation.{Equation}
 use Rattle.equation_file.specs.declared.refusal.FileRefusal.{FileRefusal}
 use Rattle.equation_file.specs.declared.refusal.FileRefusal.TheVariants as refusals
 
 abbrev pub section_text : Section → List ℕ
 section_text sections.Version = codes "version"
 section_text sections.Scaling = codes "scaling"
+section_text sections.Reflect = codes "reflect"
 section_text sections.Parameters = codes "parameters"
 section_text sections.Noise = codes "noise"
 section_text sections.Unknown = codes "unknown"
@@ -29,6 +30,7 @@ field_text fields.Name = codes "name"
 field_text fields.Degree = codes "degree"
 field_text fields.Group = codes "group"
 field_text fields.Regularity = codes "regularity"
+field_text fields.Moments = codes "moments"
 field_text fields.Right = codes "right"
 
 abbrev pub item_text : Section → ℕ → List ℕ

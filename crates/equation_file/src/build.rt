@@ -1,20 +1,20 @@
 // The equation that a document writes down.
-ghost use Rattle.std.specs.Prelude.{◌≡◌, ◌≤◌, ◌<◌, ◌+◌, ◌++◌, ℕ, pos, None, length, map, take, slice_index, Ok, IfOk, OnOk};
+ghost use Rattle.std.specs.Prelude.{◌≡◌, ◌≤◌, ◌<◌, ◌+◌, ◌++◌, ◌∷◌, [], ℕ, pos, None, cond, length, map, take, slice_index, Ok, IfOk, OnOk};
 ghost use Rattle.equation_document.specs.FirstOf.{over, first_of};
 ghost use Rattle.equation_document.specs.Limits.{noise_number, unknown_number, right_terms, limits_of};
 ghost use Rattle.equation_document.specs.Counted.{AreCounted};
 ghost use Rattle.equation_document.specs.Terms.{term_derivative};
 ghost use Rattle.equation_file.specs.Collect.{collected};
-ghost use Rattle.equation_file.specs.Meaning.{groups_of, noise_type, kernel_type, type_list, types_of, unknown_of, unknowns_from, equation_in, document_equation};
+ghost use Rattle.equation_file.specs.Meaning.{groups_of, is_written, reflect_of, noise_type, kernel_type, type_list, types_of, unknown_of, unknowns_from, equation_in, document_equation};
 ghost use Rattle.equation_file.specs.Products.{five, products};
 
 use crate::collect::collected;
-use crate::equation::{Equation, RightTerm, Unknown};
 use crate::resolve::{five, products_of};
 use degree_numbers::{Kind, Name, TypeEntry, TypeId, Types, Units};
 use equation_document::{
     Document, Names, NoiseEntry, UnknownEntry, denominator_of, place_of, stands_in, units_of,
 };
+use equations::{Equation, RightTerm, Unknown};
 use right_side_text::WrittenTerm;
 use sqlite_items::Items;
 use std::alloc::{AllocError, Global};
@@ -44,6 +44,7 @@ fn noise_type(den: u64, groups: &[Name], noise: &NoiseEntry) -> TypeEntry
         kind: Kind::Noise,
         degree: noise.degree.in_units(den),
         group: place_of(groups, &noise.group) as u8,
+        moments: None,
     }
 }
 
@@ -57,6 +58,7 @@ fn kernel_type(den: u64, unknown: &UnknownEntry) -> TypeEntry
         kind: Kind::Kernel,
         degree: unknown.degree.in_units(den),
         group: 0,
+        moments: unknown.moments,
     }
 }
 
@@ -92,6 +94,31 @@ fn add_kernel_types(
     Ok(())
 }
 
+fn add_direction(
+    directions: &mut Items<u8>,
+    written: &[u64],
+    direction: u8,
+) -> Result<(), AllocError>
+    ensures { OnOk result (directions.new ≡ directions.old ++ cond (is_written written.now direction) (direction ∷ []) []) }
+{
+    if written.contains(&(direction as u64)) {
+        directions.push(direction)?;
+    }
+    Ok(())
+}
+
+// The directions that may be reflected, ascending.
+fn reflect_of(alloc: Global, dims: usize, written: &[u64]) -> Result<Items<u8>, AllocError>
+    requires { dims ≤ 5 }
+    ensures { IfOk result (λ v. v ≡ reflect_of dims written.now) }
+{
+    let mut directions = Items::new(alloc);
+    for before in 0..dims {
+        add_direction(&mut directions, written, (before + 1) as u8)?;
+    }
+    Ok(directions)
+}
+
 fn types_of(alloc: Global, den: u64, document: &Document) -> Result<Types, AllocError>
     requires den { den ≤ 1000000 }
     requires limits { limits_of document.now ≡ Ok tt }
@@ -106,12 +133,14 @@ fn types_of(alloc: Global, den: u64, document: &Document) -> Result<Types, Alloc
         document.noises.as_slice(),
     )?;
     add_kernel_types(&mut list, den, document.unknowns.as_slice())?;
+    let reflect = reflect_of(alloc, document.scaling.len(), document.reflect.as_slice())?;
     Ok(Types {
         dims: document.scaling.len() as u8,
         scaling: five(document.scaling.as_slice()),
         units: Units { den: whole(den) },
         list,
         groups,
+        reflect,
     })
 }
 

@@ -3,8 +3,8 @@ ghost use Rattle.std.specs.Prelude.{◌≡◌, ◌*◌, ◌≤◌, ◌^◌, leng
 ghost use Rattle.std.specs.List.{list_any};
 ghost use Rattle.equation_file.specs.Collect.{same, different, size, sum_under, coefficient_of, collected};
 
-use crate::equation::RightTerm;
 use crate::product::Product;
+use equations::RightTerm;
 use sqlite_items::Items;
 use std::alloc::{AllocError, Global};
 

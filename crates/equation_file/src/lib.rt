@@ -4,21 +4,22 @@
 mod build;
 mod collect;
 mod context;
-mod edge_types;
-mod equation;
 mod product;
 mod read;
 mod refusal;
 mod resolve;
 
-pub use context::context_text;
-pub use edge_types::{edge_type_laws, edge_type_order};
-pub use equation::{Equation, RightTerm, Unknown};
+pub use context::{context_text, old_context_text};
 pub use equation_document::{MOST_BYTES, Reason, Which};
+pub use equations::{Equation, RightTerm, Unknown, edge_type_laws, edge_type_order};
 pub use read::read_equation;
 pub use refusal::FileRefusal;
-pub use type_contexts::{ContextRefusal, contexts_determine_types, read_context};
+pub use type_contexts::{
+    ContextRefusal, contexts_determine_types, forms_of_contexts, read_context, read_old_context,
+};
 
+#[cfg(test)]
+mod declarations;
 #[cfg(test)]
 mod systems;
 #[cfg(test)]

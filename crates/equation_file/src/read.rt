@@ -1,13 +1,13 @@
 // Files, from bytes to equations.
 ghost use Rattle.std.specs.Prelude.{◌≡◌, IfOk};
-ghost use Rattle.equation_file.specs.Accepted.{IsEquation};
+ghost use Rattle.equations.specs.Accepted.{IsEquation};
 ghost use Rattle.equation_file.specs.File.{equation_of};
 ghost use Rattle.equation_file.specs.Refusals.{IsAnswer};
 
 use crate::build::document_equation;
-use crate::equation::Equation;
 use crate::refusal::{FileRefusal, refusal_of};
 use equation_document::{ReadError, read_document};
+use equations::Equation;
 use std::alloc::Global;
 
 // The equation of the bytes, or their refusal.

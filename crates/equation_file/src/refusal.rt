@@ -36,6 +36,7 @@ fn section_text(section: Section) -> &'static [u8]
     match section {
         Section::Version => b"version",
         Section::Scaling => b"scaling",
+        Section::Reflect => b"reflect",
         Section::Parameters => b"parameters",
         Section::Noise => b"noise",
         Section::Unknown => b"unknown",
@@ -50,6 +51,7 @@ fn field_text(field: Field) -> &'static [u8]
         Field::Degree => b"degree",
         Field::Group => b"group",
         Field::Regularity => b"regularity",
+        Field::Moments => b"moments",
         Field::Right => b"right",
     }
 }

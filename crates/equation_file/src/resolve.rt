@@ -5,13 +5,13 @@ ghost use Rattle.std.specs.Ordering.{nat_cmp, is_gt};
 ghost use Rattle.equation_document.specs.FirstOf.{over, first_of};
 ghost use Rattle.equation_document.specs.Names.{place_of};
 ghost use Rattle.equation_document.specs.Terms.{factor_derivative, term_derivative};
-ghost use Rattle.equation_file.specs.EdgeTypes.{edge_type_order};
+ghost use Rattle.equations.specs.EdgeTypes.{edge_type_order};
 ghost use Rattle.equation_file.specs.Products.{placed, placed_often, five, multi_of, is_parameter, edge_type_of, with_parameter, with_factor, parameters_of, factors_of, product_of, products};
 
-use crate::edge_types::edge_type_order;
 use crate::product::Product;
 use degree_numbers::{Multi, TypeId};
 use equation_document::{Names, place_of};
+use equations::edge_type_order;
 use right_side_text::{WrittenFactor, WrittenTerm};
 use sqlite_items::Items;
 use std::alloc::{AllocError, Global};

@@ -1,5 +1,5 @@
 -- Laws of binomials and multinomials.
-use Rattle.std.proofs.Common.{length-set, ◌≡◌, ℕ, zero, suc, ◌+◌, ◌-◌, ◌*◌, ◌/◌, ◌%◌, ◌<◌, ◌≤◌, ◌≢◌, length, get_or, set, inl, inr, List, [], ◌∷◌, ◌++◌, sum, refl, sym, ap, ◌∙◌, arith}
+use Rattle.std.proofs.Common.{length-set, ◌≡◌, ℕ, zero, suc, ◌+◌, ◌-◌, ◌*◌, ◌/◌, ◌%◌, ◌<◌, ◌≤◌, ◌≢◌, length, get_or, set, inl, inr, List, [], ◌∷◌, ◌++◌, map, sum, refl, sym, ap, ◌∙◌, arith}
 use Rattle.std.proofs.Math.Nat.{mul_comm, mul_assoc, mul-pos, mul-div_cancel, mul-add-div_right, div-add-mod}
 use Rattle.std.proofs.lemmas.List.Sums.{sum_by-cons, sum_by-append}
 use Rattle.std.proofs.lemmas.List.{get_or-set_same, get_or-set_other}
@@ -8,9 +8,9 @@ use Rattle.std.proofs.lemmas.List.Sorted.{sum_by-IsPermutation, IsPermutation-ke
 use Rattle.std.proofs.lemmas.Bool.{cases_lt}
 use Rattle.std.specs.List.{swap}
 use Rattle.std.specs.List.Sorted.{IsPermutation}
-use Rattle.exact_sums.specs.Saturating.{overflow, saturated, saturating_times}
-use Rattle.exact_sums.proofs.SaturatingLaws.{saturated_mul_left, saturated_mul_right}
-use Rattle.exact_sums.specs.Binomials.{binomial, multinomial}
+use Rattle.exact_sums.specs.Binomials.{factorial, binomial, multinomial}
+use Rattle.exact_sums.specs.Saturating.{overflow, saturated, saturating_times, product}
+use Rattle.exact_sums.proofs.SaturatingLaws.{saturated_mul_left, saturated_mul_right, product_cons}
 
 pub binomial-zero : (n : ℕ) → binomial n 0 ≡ 1
 unfolding binomial
@@ -32,10 +32,6 @@ unfolding binomial
 binomial_grows n k = omega arith
 
 -- factorials
-pub factorial : ℕ → ℕ
-factorial zero = 1
-factorial (suc n) = suc n * factorial n
-
 pub factorials : List ℕ → ℕ
 factorials [] = 1
 factorials (x ∷ xs) = factorial x * factorials xs
@@ -104,6 +100,14 @@ multinomial_factorials [] = refl
 multinomial_factorials (x ∷ xs) =
     let a : sum (x ∷ xs) ≡ sum xs + x = omega (arith, sum_by-cons (λ (n : ℕ). n) x xs) in
     rw a (multinomial_step (binomial (sum xs + x) x) (multinomial xs) (factorial x) (factorials xs) (factorial (sum xs)) (factorial (sum xs + x)) (binomial_factorials x (sum xs)) (multinomial_factorials xs))
+
+factorials_product : (xs : List ℕ) → factorials xs ≡ product (map factorial xs)
+unfolding factorials
+factorials_product [] = refl
+factorials_product (x ∷ xs) = rw (product_cons (factorial x) (map factorial xs), factorials_product xs) refl
+
+pub multinomial_quotient : (xs : List ℕ) → multinomial xs * product (map factorial xs) ≡ factorial (sum xs)
+multinomial_quotient xs = ap (λ (n : ℕ). multinomial xs * n) (sym (factorials_product xs)) ∙ multinomial_factorials xs
 
 pub multinomial_is_from : (xs : List ℕ) → multinomial_from 0 xs ≡ multinomial xs
 unfolding factorial

@@ -1,7 +1,12 @@
--- Binomials and multinomials.
+-- Factorials, binomials and multinomials.
+--   factorial n == n!
 --   binomial n k == the number of ways to choose k of n things, by Pascal's rule
 --   multinomial [x1, .., xm] == (x1 + .. + xm)! / (x1! * .. * xm!): the number of ways to part so many things into parts of these sizes
 use Rattle.std.specs.Prelude.{ℕ, zero, suc, ◌+◌, ◌*◌, List, [], ◌∷◌, sum}
+
+unfoldable pub factorial : ℕ → ℕ
+factorial zero = 1
+factorial (suc n) = suc n * factorial n
 
 unfoldable pub binomial : ℕ → ℕ → ℕ
 binomial n zero = 1

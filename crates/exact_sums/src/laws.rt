@@ -2,7 +2,7 @@
 
 ghost use Rattle.std.specs.Prelude.{◌≡◌, ℕ, ◌+◌, ◌*◌, ◌++◌, List, map, sum};
 ghost use Rattle.exact_sums.specs.Saturating.{saturated, saturating_plus, saturating_times, saturating_sum, saturating_product, product};
-ghost use Rattle.exact_sums.specs.Binomials.{binomial, multinomial};
+ghost use Rattle.exact_sums.specs.Binomials.{factorial, binomial, multinomial};
 ghost use Rattle.exact_sums.specs.Keyed.{IsExactTest, HaveSameSaturatedSums, IsCollected, expanded, products, same_by, sum_at, collected, keys};
 ghost use Rattle.std.specs.List.Sorted.{IsPermutation, IsStrictlySortedBy};
 
@@ -14,8 +14,10 @@ pub fn saturated_laws()
     ensures products { (xs : List ℕ) → saturating_product (map saturated xs) ≡ saturated (product xs) }
 {}
 
-/// A multinomial does not depend on the order of its parts; that of two lists of parts is the product of theirs and of a binomial.
+/// A multinomial is the factorial of the sum of its parts over the product of the factorials of the parts. It does not depend on the order of the parts; that of two
+/// lists of parts is the product of theirs and of a binomial.
 pub fn multinomial_laws()
+    ensures quotient { (xs : List ℕ) → multinomial xs * product (map factorial xs) ≡ factorial (sum xs) }
     ensures order { (xs ys : List ℕ) → IsPermutation xs ys → multinomial ys ≡ multinomial xs }
     ensures append { (xs ys : List ℕ) → multinomial (xs ++ ys) ≡ multinomial xs * multinomial ys * binomial (sum xs + sum ys) (sum ys) }
 {}

@@ -1,6 +1,7 @@
 // Binomials and multinomials, with no memory.
 
 ghost use Rattle.std.specs.Prelude.{◌≡◌, ℕ, ◌+◌, ◌*◌, ◌<◌, ◌≤◌, sum};
+ghost use Rattle.limits.specs.declared.TheConstants.{MOST_DECORATIONS};
 ghost use Rattle.exact_sums.specs.Saturating.{saturated};
 ghost use Rattle.exact_sums.specs.Binomials.{binomial, multinomial};
 
@@ -9,8 +10,8 @@ use crate::saturated::{OVERFLOW, Saturated};
 /// The value of `c * m / d` where `d` divides `c * m`. No number above that value is made on the way.
 fn exact_quotient_of(c: u128, m: u32, d: u32) -> u128
     requires above { 0 < d }
-    requires small { d ≤ 4096 }
-    requires factor { m ≤ 4096 }
+    requires small { d ≤ MOST_DECORATIONS }
+    requires factor { m ≤ MOST_DECORATIONS }
     ensures { (v : ℕ) → v * d ≡ c * m → result ≡ saturated v }
 {
     let d = u128::from(d);
@@ -21,7 +22,7 @@ fn exact_quotient_of(c: u128, m: u32, d: u32) -> u128
 
 /// The number of ways to choose `k` of `b + k` things, in `k` steps.
 fn binomial_over(b: u32, k: u32) -> Saturated
-    requires { b + k ≤ 4096 }
+    requires { b + k ≤ MOST_DECORATIONS }
     ensures { result ≡ saturated (binomial (b + k) k) }
 {
     let mut c: u128 = 1;
@@ -36,7 +37,7 @@ fn binomial_over(b: u32, k: u32) -> Saturated
 
 /// The binomial coefficient: the number of ways to choose `k` of `n` things.
 pub fn binomial(n: u32, k: u32) -> Saturated
-    requires most { n ≤ 4096 }
+    requires most { n ≤ MOST_DECORATIONS }
     requires within { k ≤ n }
     ensures { result ≡ saturated (binomial n k) }
 {
@@ -50,7 +51,7 @@ pub fn binomial(n: u32, k: u32) -> Saturated
 
 /// The multinomial coefficient `(x1 + .. + xm)! / (x1! * .. * xm!)` of the given parts.
 pub fn multinomial_of(parts: &[u32]) -> Saturated
-    requires { sum parts.now ≤ 4096 }
+    requires { sum parts.now ≤ MOST_DECORATIONS }
     ensures { result ≡ saturated (multinomial parts.now) }
 {
     let mut size = 0;

@@ -1,4 +1,4 @@
-//! Examples of files: each fault, each limit at its number and one past it, what comes first, and equations that people know.
+//! Examples of files: each fault, each limit at its number and one past it, what comes first, and equations that people know; and the lines of refusals.
 #![tactic(auto)]
 
 #[cfg(test)]
@@ -9,6 +9,8 @@ mod examples;
 mod files;
 #[cfg(test)]
 mod order;
+#[cfg(test)]
+mod refusals;
 #[cfg(test)]
 mod tables;
 #[cfg(test)]

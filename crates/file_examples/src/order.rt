@@ -6,7 +6,7 @@ use std::alloc::Global;
 // Lines with a fault, in the order in which faults are sought.
 const FAULTS: [(Line, &str, &str); 20] = [
     (Top, "colour = 1", "4 Malformed file key"),
-    (Version, "version = 2", "4 Malformed version value"),
+    (Version, "version = 3", "4 Malformed version value"),
     (Scaling, "scaling = 2", "4 Malformed scaling kind"),
     (
         Parameters,

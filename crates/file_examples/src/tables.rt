@@ -209,6 +209,8 @@ fn each_reason_of_each_entry(rt: HostRuntime) {
 
 const TOP: &str = "version = 1\nscaling = [2, 1]\n";
 
+const TOP_2: &str = "version = 2\nscaling = [2, 1]\n";
+
 const NOISE: &str = "[[noise]]\nname = \"xi\"\ndegree = \"-3/2-k\"\n";
 
 const ETA: &str = "[[noise]]\nname = \"eta\"\ndegree = \"-3/2-k\"\n";
@@ -220,7 +222,7 @@ const V: &str =
     "[[unknown]]\nname = \"v\"\ndegree = \"2\"\nregularity = \"1/4\"\nright = \"u*v\"\n";
 
 // Tables in other orders, keys twice, keys that may be missing.
-const FILES: [(&[&str], &str); 21] = [
+const FILES: [(&[&str], &str); 26] = [
     (&[TOP, NOISE, U], ""),
     (&[TOP, U, NOISE], ""),
     (&[TOP, NOISE, U, "# end"], ""),
@@ -236,6 +238,20 @@ const FILES: [(&[&str], &str); 21] = [
     (&[TOP, NOISE, U, V], ""),
     (&[TOP, NOISE, V, U], ""),
     (&[TOP, NOISE, V], "4 Malformed unknown[1].right polynomial"),
+    (&[TOP_2, NOISE, U, "moments = 0\n"], ""),
+    (&[TOP_2, "reflect = [2]\n", NOISE, U], ""),
+    (
+        &[TOP, "reflect = [2]\n", NOISE, U],
+        "4 Malformed reflect version",
+    ),
+    (
+        &[TOP_2, "reflect = [3]\n", NOISE, U],
+        "4 Malformed reflect[1] value",
+    ),
+    (
+        &[TOP, NOISE, U, "moments = 0\n"],
+        "4 Malformed unknown[1].moments version",
+    ),
     (&[], "4 Malformed version missing"),
     (&["scalin"], "4 NotToml"),
     (&[TOP, "version = 1\n", NOISE, U], "4 NotToml"),

@@ -215,10 +215,11 @@ fn right_sides_past_their_limits(rt: HostRuntime) {
 }
 
 // Values at the first keys, and why their files are refused.
-const VERSIONS_AND_SCALINGS: [(Part, &str, &str); 26] = [
+const VERSIONS_AND_SCALINGS: [(Part, &str, &str); 27] = [
     (Version, "1", ""),
     (Version, "+1", ""),
-    (Version, "2", "4 Malformed version value"),
+    (Version, "2", ""),
+    (Version, "3", "4 Malformed version value"),
     (Version, "0", "4 Malformed version value"),
     (Version, "-1", "4 Malformed version value"),
     (Version, "1.0", "4 Malformed version kind"),

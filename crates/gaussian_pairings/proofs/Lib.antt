@@ -1,3 +1,4 @@
+pub mod DirectionSums
 pub mod GroupBounds
 pub mod ListingSteps
 pub mod NoiseCounts

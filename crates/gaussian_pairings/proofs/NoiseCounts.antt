@@ -3,15 +3,14 @@ use Rattle.std.proofs.Common.{◌≡◌, ℕ, suc, zero, ◌+◌, ◌<◌, ◌�
 use Rattle.std.proofs.lemmas.Bool.Decides.{nat_tests}
 use Rattle.std.proofs.lemmas.Option.{slice_get-get_or}
 use Rattle.degree_numbers.specs.declared.Types.{Types}
-use Rattle.degree_numbers.specs.Multi.{is_zero}
 use Rattle.degree_numbers.specs.Types.{group_of}
 use Rattle.ordered_lists.specs.Subs.{count_of}
 use Rattle.plain_trees.specs.Plain.{Plain, bare, graft, edge_count_of}
 use Rattle.plain_trees.specs.View.{Labelled, grafted}
 use Rattle.tree_pool.specs.Content.{Content, IsPooled, tree_at, Holds, edge_over, tree_over}
 use Rattle.tree_pool.specs.declared.EdgeTo.{EdgeTo}
-use Rattle.tree_pool.proofs.Walks.{at_holds, root_at, tree_cut, count_most}
-use Rattle.gaussian_pairings.specs.Vanishing.{is_noise_type, noise_here, noise_groups, noises_in, some_below, vanishes}
+use Rattle.tree_pool.proofs.Walks.{at_holds, tree_cut, count_most}
+use Rattle.gaussian_pairings.specs.Vanishing.{is_noise_type, noise_here, noise_groups, noises_in, some_below}
 
 pub count_of-append : {X : Type 0} (c : X → X → Ordering) (n : X) (xs ys : List X) → count_of c n (xs ++ ys) ≡ count_of c n xs + count_of c n ys
 count_of-append c n [] ys = omega arith
@@ -65,14 +64,6 @@ below_found (suc n) test g h e =
 
 pub noises_within : (ty : Types) (c : Content) (i : ℕ) (t : Plain) (g : ℕ) → Holds c i t → edge_count_of t ≤ 24 → noises_in ty (tree_at c i) g ≤ 24
 noises_within ty c i t g h small = omega (arith, noises_most ty (tree_at c i) g, count_most c i t h small)
-
--- the root's decoration decides, or a group
-pub root_decides : (ty : Types) (c : Content) (i : ℕ) (n : List ℕ) (es : List EdgeTo) → Holds c i (tree_over c.trees n es) → is_zero n ≡ false → true ≡ vanishes ty (tree_at c i)
-root_decides ty c i n es h e = rw (root_at c i n es h, e) refl
-
-pub groups_decide : (ty : Types) (c : Content) (i : ℕ) (n : List ℕ) (es : List EdgeTo) (b : Bool) → Holds c i (tree_over c.trees n es) → is_zero n ≡ true →
-    some_below (length ty.groups) (λ g. noises_in ty (tree_at c i) g % 2 == 1) ≡ b → b ≡ vanishes ty (tree_at c i)
-groups_decide ty c i n es b h e k = rw (root_at c i n es h, e, k) refl
 
 -- the number of noise edges
 one_group : (b : Bool) (g : ℕ) → length (cond b (g ∷ []) []) ≤ 1

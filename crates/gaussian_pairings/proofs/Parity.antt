@@ -5,13 +5,12 @@ use Rattle.std.specs.Ordering.{is_eq}
 use Rattle.std.proofs.lemmas.Bool.{cases_lt}
 use Rattle.std.proofs.lemmas.Bool.Decides.{nat_tests}
 use Rattle.degree_numbers.specs.declared.Types.{Types}
-use Rattle.degree_numbers.specs.Multi.{is_zero}
 use Rattle.degree_numbers.specs.Types.{AreTypes}
 use Rattle.ordered_lists.specs.Members.{IsIn}
 use Rattle.ordered_lists.specs.Subs.{count_of}
-use Rattle.plain_trees.specs.Plain.{Plain, root_of}
+use Rattle.plain_trees.specs.Plain.{Plain}
 use Rattle.gaussian_pairings.specs.declared.noises.NoiseEdge.{NoiseEdge}
-use Rattle.gaussian_pairings.specs.Vanishing.{noise_groups, noises_in, some_below, vanishes}
+use Rattle.gaussian_pairings.specs.Vanishing.{noise_groups, noises_in, some_below, has_odd_group}
 use Rattle.gaussian_pairings.specs.Pairings.{Pair, numbered, noise_edges, IsPairing}
 use Rattle.gaussian_pairings.proofs.PairingLaws.{Ascend, ascend_fewer, Cut, cut_at, first_pair, rest_is_pairing, is_pairing-cons, unit_same, times_none}
 use Rattle.gaussian_pairings.proofs.PairingOrder.{ascend_numbered}
@@ -108,19 +107,18 @@ even_is n h = grind (arith, nat_tests)
 not_odd : (n : ℕ) → n % 2 ≡ 0 → n % 2 == 1 ≡ false
 not_odd n h = grind (arith, nat_tests)
 
-all_even : (ty : Types) (t : Plain) → AreTypes ty → some_below (length ty.groups) (λ g. noises_in ty t g % 2 == 1) ≡ false → (g : ℕ) → noises_in ty t g % 2 ≡ 0
+all_even : (ty : Types) (t : Plain) → AreTypes ty → has_odd_group ty t ≡ false → (g : ℕ) → noises_in ty t g % 2 ≡ 0
 all_even ty t h none g = elim (cases_lt g (length ty.groups)) [
   | inl lt ↦ even_is (noises_in ty t g) (none_below (length ty.groups) (λ g. noises_in ty t g % 2 == 1) g none lt)
   | inr ge ↦ ap (λ (n : ℕ). n % 2) (times_none g (noise_groups ty t) (λ x k e. omega (arith, e, ge, groups_below ty t x h k)))
 ]
 
--- a tree without a decoration at its root vanishes exactly where there is no pairing
-pub no_pairing : (ty : Types) (t : Plain) → AreTypes ty → is_zero (root_of t) ≡ true → (vanishes ty t ≡ false) ↔ ((ps : List Pair) × IsPairing (noise_edges ty t) ps)
-no_pairing ty t h root =
+-- no group is odd exactly where there is a pairing
+pub no_pairing : (ty : Types) (t : Plain) → AreTypes ty → (has_odd_group ty t ≡ false) ↔ ((ps : List Pair) × IsPairing (noise_edges ty t) ps)
+no_pairing ty t h =
     let ns = noise_edges ty t in
     let up = ascend_numbered 1 (noise_groups ty t) in
-    let is : vanishes ty t ≡ some_below (length ty.groups) (λ g. noises_in ty t g % 2 == 1) = rw root refl in
     let same : groups ns ≡ noise_groups ty t = groups-numbered 1 (noise_groups ty t) in (
-      (λ v. some_pairing (length ns) ns (omega arith) up (λ g. ap (λ (gs : List ℕ). count_of nat_cmp g gs % 2) same ∙ all_even ty t h (sym is ∙ v) g)),
-      (λ p. is ∙ all_fail (length ty.groups) (λ g. noises_in ty t g % 2 == 1) (λ g. not_odd (noises_in ty t g) (ap (λ (gs : List ℕ). count_of nat_cmp g gs % 2) (sym same) ∙ even_groups (length ns) ns p.0 g (omega arith) up p.1))),
+      (λ v. some_pairing (length ns) ns (omega arith) up (λ g. ap (λ (gs : List ℕ). count_of nat_cmp g gs % 2) same ∙ all_even ty t h v g)),
+      (λ p. all_fail (length ty.groups) (λ g. noises_in ty t g % 2 == 1) (λ g. not_odd (noises_in ty t g) (ap (λ (gs : List ℕ). count_of nat_cmp g gs % 2) (sym same) ∙ even_groups (length ns) ns p.0 g (omega arith) up p.1))),
     )

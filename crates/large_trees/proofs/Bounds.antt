@@ -2,7 +2,7 @@
 use Rattle.std.proofs.Common.{List, take, get_or, length, ap, sym, ◌∙◌, ◌≡◌, ℕ, ◌+◌, ◌*◌, ◌≤◌, ◌<◌, ℤ, pos, ◌+ℤ◌, ◌-ℤ◌, arith}
 use Rattle.std.specs.Prelude.{FitsSigned, fold}
 use Rattle.std.proofs.lemmas.List.Sums.{fold_more}
-use Rattle.equation_file.specs.declared.equation.Equation.{Equation}
+use Rattle.equations.specs.declared.equation.Equation.{Equation}
 use Rattle.normal_rule.specs.declared.rule.EdgeType.{EdgeType}
 use Rattle.normal_rule.specs.declared.rule.NodeType.{NodeType}
 use Rattle.normal_rule.specs.Regularity.{edge_regularity}
@@ -15,6 +15,9 @@ use Rattle.large_trees.specs.Lines.{IsSmall, small, standard, excess_plus}
 
 pub units_product : (den size n : ℕ) → den ≤ 1000000 → size ≤ 10 * n → n ≤ 50000000000 → den * size ≤ 500000000000000000
 units_product den size n h k l = let most : size ≤ 500000000000 = omega arith in mul-le-mul h most
+
+pub fine_product : (den size n : ℕ) → den ≤ 1000000 → size ≤ 10 * n → n ≤ 1000 → den * size ≤ 10000000000
+fine_product den size n h k l = let most : size ≤ 10000 = omega arith in mul-le-mul h most
 
 pub within_plus : (x y : ℤ) (m n l : ℕ) → IsWithin x m → IsWithin y n → m + n ≤ l → IsWithin (x +ℤ y) l
 within_plus x y m n l h k lt =

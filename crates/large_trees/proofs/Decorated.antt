@@ -41,7 +41,7 @@ size_least u den (suc d) (s ∷ ss) (m ∷ ms) l z h =
 
 -- the decorations of nodes add at least the unit for each entry
 module _ (ty : Types) (types : AreTypes ty) (unit : ℕ) (is : IsUnit ty unit) where
-  node_least : (n : List ℕ) → IsMultiIndex ty.dims n → unit * sum n ≤ size_in_units ty n
+  pub node_least : (n : List ℕ) → IsMultiIndex ty.dims n → unit * sum n ≤ size_in_units ty n
   node_least n h = size_least unit (unsigned_abs ty.units.den) ty.dims ty.scaling n (types.scaling.entries ∙ sym h.entries) h.rest is.least
 
   pub strip_degree : (t : Plain) → HasTypes ty t → (((degree_of ty (strip t)).a +ℤ pos (unit * node_sum t)) ≤ℤ (degree_of ty t).a) × ((degree_of ty (strip t)).b ≡ (degree_of ty t).b)

@@ -1,8 +1,8 @@
 -- Drawn trees conform, and each canonical tree that conforms is drawn once its nodes are left undecorated.
 use Rattle.std.proofs.Common.{◌≡◌, ℕ, zero, suc, ◌+◌, ◌<◌, false, is_lt, get_or, List, [], ◌∷◌, length, map, sum, refl, sym, ap, ◌∙◌, subst, inl, inr, arith}
-use Rattle.equation_file.specs.declared.equation.Equation.{Equation}
-use Rattle.equation_file.specs.EdgeTypes.{edge_type_order, IsInOrder}
-use Rattle.equation_file.proofs.EdgeTypeLaws.{edge_type_order_total}
+use Rattle.equations.specs.declared.equation.Equation.{Equation}
+use Rattle.equations.specs.EdgeTypes.{edge_type_order, IsInOrder}
+use Rattle.equations.proofs.EdgeTypeLaws.{edge_type_order_total}
 use Rattle.normal_rule.specs.Order.{pair_of}
 use Rattle.ordered_lists.specs.Members.{IsIn}
 use Rattle.ordered_lists.proofs.Unique.{sorted-rest}

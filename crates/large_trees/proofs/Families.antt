@@ -5,8 +5,8 @@ use Rattle.std.proofs.lemmas.Int.{ints}
 use Rattle.std.proofs.lemmas.List.Elements.{All-tail}
 use Rattle.degree_numbers.specs.Types.{kind_of}
 use Rattle.degree_numbers.specs.declared.types.Kind.TheVariants.{Noise, Kernel}
-use Rattle.equation_file.specs.declared.equation.Equation.{Equation}
-use Rattle.equation_file.specs.Accepted.{IsEquation}
+use Rattle.equations.specs.declared.equation.Equation.{Equation}
+use Rattle.equations.specs.Accepted.{IsEquation}
 use Rattle.ordered_lists.specs.Members.{IsIn}
 use Rattle.ordered_lists.proofs.Members.{all_at}
 use Rattle.plain_trees.specs.Plain.{Plain, bare, graft}

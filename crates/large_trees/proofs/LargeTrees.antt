@@ -5,8 +5,8 @@ use Rattle.std.proofs.Math.Nat.{mul-le-mul, mul_assoc}
 use Rattle.degree_numbers.specs.declared.degree.Degree.{Degree}
 use Rattle.degree_numbers.specs.Degree.{degree_order, degree_plus, degree_zero}
 use Rattle.degree_numbers.specs.Types.{size_in_units}
-use Rattle.equation_file.specs.declared.equation.Equation.{Equation}
-use Rattle.equation_file.specs.Accepted.{IsEquation}
+use Rattle.equations.specs.declared.equation.Equation.{Equation}
+use Rattle.equations.specs.Accepted.{IsEquation}
 use Rattle.ordered_lists.specs.Members.{IsIn}
 use Rattle.plain_trees.specs.Plain.{Plain, bare, graft, edge_count_of, decoration_sum_of}
 use Rattle.plain_trees.specs.Building.{zeros}

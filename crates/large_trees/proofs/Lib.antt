@@ -1,4 +1,5 @@
 pub mod Bounds
+pub mod Charged
 pub mod Decorated
 pub mod Drawings
 pub mod Equal
@@ -10,4 +11,5 @@ pub mod Passed
 pub mod RoundLines
 pub mod Sizes
 pub mod Trees
+pub mod TypeBounds
 pub mod Units

@@ -5,7 +5,7 @@ use Rattle.ordered_lists.specs.Members.{IsIn}
 use Rattle.ordered_lists.proofs.Members.{member_at}
 use Rattle.degree_numbers.specs.declared.types.Kind.TheVariants.{Noise}
 use Rattle.degree_numbers.specs.Types.{kind_of, type_degree}
-use Rattle.equation_file.specs.declared.equation.Equation.{Equation}
+use Rattle.equations.specs.declared.equation.Equation.{Equation}
 use Rattle.normal_rule.specs.declared.rule.NodeType.{NodeType}
 use Rattle.normal_rule.specs.declared.rule.Rule.{Rule}
 use Rattle.conforming_trees.specs.Conforming.{labels}

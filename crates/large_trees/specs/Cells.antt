@@ -11,7 +11,7 @@ use Rattle.std.specs.Prelude.{◌≡◌, ℕ, ◌<◌, ℤ, pos, neg_ℤ, ◌+�
 use Rattle.std.specs.declared.option.Option.TheVariants.{Some}
 use Rattle.degree_numbers.specs.declared.types.Kind.TheVariants.{Noise}
 use Rattle.degree_numbers.specs.Types.{kind_of, type_degree, size_in_units}
-use Rattle.equation_file.specs.declared.equation.Equation.{Equation}
+use Rattle.equations.specs.declared.equation.Equation.{Equation}
 use Rattle.plain_trees.specs.Plain.{Plain, bare, graft}
 use Rattle.plain_trees.specs.Building.{zeros}
 use Rattle.plain_trees.specs.Degree.{IsEdge, degree_of, empty_tree}

@@ -13,7 +13,7 @@ use Rattle.std.specs.Prelude.{◌≢◌, ℤ, ◌≡◌, ℕ, ◌+◌, ◌*◌, 
 use Rattle.std.specs.declared.cmp.Ordering.TheVariants.{Greater}
 use Rattle.degree_numbers.specs.Degree.{degree_order, degree_zero}
 use Rattle.degree_numbers.specs.declared.types.Types.{Types}
-use Rattle.equation_file.specs.declared.equation.Equation.{Equation}
+use Rattle.equations.specs.declared.equation.Equation.{Equation}
 use Rattle.ordered_lists.specs.Members.{IsIn}
 use Rattle.plain_trees.specs.Plain.{Plain, edge_count_of, decoration_sum_of}
 use Rattle.plain_trees.specs.Degree.{is_kernel, degree_of}

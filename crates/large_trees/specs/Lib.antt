@@ -1,4 +1,5 @@
 pub mod Cells
+pub mod Charges
 pub mod Classes
 pub mod Large
 pub mod Limits

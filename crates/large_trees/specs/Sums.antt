@@ -12,7 +12,7 @@ use Rattle.std.specs.Prelude.{◌≡◌, ℕ, ◌+◌, ◌<◌, pos, min, List, 
 use Rattle.std.specs.declared.option.Option.TheVariants.{Some}
 use Rattle.degree_numbers.specs.declared.types.Kind.TheVariants.{Noise}
 use Rattle.degree_numbers.specs.Types.{kind_of, type_degree}
-use Rattle.equation_file.specs.declared.equation.Equation.{Equation}
+use Rattle.equations.specs.declared.equation.Equation.{Equation}
 use Rattle.ordered_lists.specs.Members.{IsIn}
 use Rattle.normal_rule.specs.declared.rule.NodeType.{NodeType}
 use Rattle.normal_rule.specs.declared.rule.RuleRow.{RuleRow}

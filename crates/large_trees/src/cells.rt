@@ -1,6 +1,6 @@
 // The cells of all types.
 ghost use Rattle.std.specs.Prelude.{◌≡◌, ◌<◌, true, length, IfOk};
-ghost use Rattle.equation_file.specs.Accepted.{IsEquation};
+ghost use Rattle.equations.specs.Accepted.{IsEquation};
 ghost use Rattle.normal_rule.specs.Regularity.{IsSubcritical};
 ghost use Rattle.conforming_trees.specs.Conforming.{IsRule};
 ghost use Rattle.large_trees.specs.Cells.{AreExact};
@@ -11,7 +11,7 @@ use crate::count::Count;
 use crate::lengths::lengths_fit;
 use crate::line::Line;
 use crate::rounds::next_line;
-use equation_file::Equation;
+use equations::Equation;
 use normal_rule::Rule;
 use std::alloc::{AllocError, Global};
 

@@ -2,7 +2,7 @@
 ghost use Rattle.std.specs.Prelude.{◌≡◌, ◌≤◌, neg_ℤ, pos, unsigned_abs};
 ghost use Rattle.degree_numbers.specs.Types.{size_in_units, type_degree};
 ghost use Rattle.degree_numbers.specs.Degree.{IsWithin};
-ghost use Rattle.equation_file.specs.Accepted.{IsEquation};
+ghost use Rattle.equations.specs.Accepted.{IsEquation};
 ghost use Rattle.normal_rule.specs.Regularity.{regularity_of, edge_regularity, node_regularity};
 ghost use Rattle.large_trees.specs.Lines.{IsSmall, standard};
 ghost use Rattle.large_trees.specs.Sums.{gap_of};
@@ -10,7 +10,7 @@ ghost use Rattle.large_trees.specs.Sums.{gap_of};
 use crate::count::Count;
 use crate::excess::Excess;
 use degree_numbers::{Multi, TypeId};
-use equation_file::Equation;
+use equations::Equation;
 use normal_rule::{EdgeType, NodeType, regularity_of};
 
 // The common denominator of the degrees.

@@ -2,7 +2,7 @@
 ghost use Rattle.std.specs.Prelude.{◌≡◌, ◌≤◌, ◌≤ℤ◌, ◌+ℤ◌, ℕ, pos, true, false, IfOk};
 ghost use Rattle.std.specs.declared.option.Option.TheVariants.{Some};
 ghost use Rattle.degree_numbers.specs.Degree.{IsWithin};
-ghost use Rattle.equation_file.specs.Accepted.{IsEquation};
+ghost use Rattle.equations.specs.Accepted.{IsEquation};
 ghost use Rattle.ordered_lists.specs.Members.{IsIn};
 ghost use Rattle.normal_rule.specs.declared.rule.NodeType.{NodeType};
 ghost use Rattle.normal_rule.specs.Regularity.{IsSubcritical, node_regularity};
@@ -18,10 +18,11 @@ use crate::count::Count;
 use crate::excess::Excess;
 use crate::gaps::node_regularity;
 use crate::line::{CLASSES, Line};
+use crate::lower_bounds::has_none;
 use crate::nodes::node_line;
 use crate::roots::{planted_lack, root_degree};
 use crate::unit::unit;
-use equation_file::Equation;
+use equations::Equation;
 use normal_rule::{NodeType, Rule, RuleRow};
 use std::alloc::{AllocError, Global};
 
@@ -113,6 +114,9 @@ fn has_large(alloc: Global, eq: &Equation, rule: &Rule, count: Count) -> Result<
     ensures yes { IfOk result (λ large. large ≡ true → HasTooLargeTree eq.now rule.now) }
     ensures no { IfOk result (λ large. large ≡ false → HasNoLarge eq.now rule.now count) }
 {
+    if has_none(alloc, eq, rule, count)? {
+        return Ok(false);
+    }
     let cells = cells(alloc, eq, rule, count)?;
     Ok(is_large_rule(eq, rule, count, cells.as_slice(), unit(&eq.types)))
 }

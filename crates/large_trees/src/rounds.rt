@@ -2,7 +2,7 @@
 ghost use Rattle.std.specs.Prelude.{◌≡◌, ◌<◌, ◌≤ℤ◌, pos};
 ghost use Rattle.ordered_lists.specs.Members.{IsIn};
 ghost use Rattle.normal_rule.specs.declared.rule.NodeType.{NodeType};
-ghost use Rattle.equation_file.specs.Accepted.{IsEquation};
+ghost use Rattle.equations.specs.Accepted.{IsEquation};
 ghost use Rattle.normal_rule.specs.Regularity.{IsSubcritical};
 ghost use Rattle.large_trees.specs.Lines.{Joins, IsLeast};
 ghost use Rattle.large_trees.specs.Limits.{AreLimited};
@@ -14,7 +14,7 @@ use crate::gaps::gap_of;
 use crate::line::{Line, MOST_EXCESS};
 use crate::nodes::node_line;
 use degree_numbers::{Degree, Kind, TypeId};
-use equation_file::Equation;
+use equations::Equation;
 use normal_rule::{NodeType, Rule, RuleRow};
 
 // Puts in what a node type allows above an edge of a kernel.

@@ -17,8 +17,8 @@ fn least_entry(types: &Types) -> u32
     least
 }
 
-// The common denominator of the degrees.
-fn denominator(types: &Types) -> u64
+/// The common denominator of the degrees.
+pub fn denominator(types: &Types) -> u64
     requires { AreTypes types.now }
     ensures value { result ≡ unsigned_abs types.now.units.den }
     ensures small { result ≤ 1000000 }

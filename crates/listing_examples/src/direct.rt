@@ -1,7 +1,7 @@
 // The listed trees of a few edges, by trying all trees.
 use crate::rows::{Bounds, Row, RowTree, is_noise, levels};
 use degree_numbers::{Degree, Multi, TypeId, Types};
-use equation_file::Equation;
+use equations::Equation;
 use normal_rule::{EdgeType, Rule, RuleRow};
 use std::alloc::{AllocError, Global};
 

@@ -2,7 +2,7 @@
 ghost use Rattle.std.specs.Prelude.{◌≡◌, ◌<◌, length};
 ghost use Rattle.std.specs.List.{All};
 ghost use Rattle.std.specs.declared.option.Option.TheVariants.{Some};
-ghost use Rattle.equation_file.specs.Accepted.{IsEquation};
+ghost use Rattle.equations.specs.Accepted.{IsEquation};
 ghost use Rattle.normal_rule.specs.Regularity.{IsSubcritical};
 ghost use Rattle.conforming_trees.specs.Conforming.{IsRule};
 ghost use Rattle.tree_pool.specs.declared.TreeId.{TreeId};
@@ -11,7 +11,8 @@ use crate::direct::{Graded, small_trees};
 use crate::rows::{Bounds, RowTree, rows_of};
 use bumpalo::Bump;
 use degree_numbers::{Degree, Multi};
-use equation_file::{Equation, read_equation};
+use equation_file::read_equation;
+use equations::Equation;
 use normal_rule::{Rule, check_regularity, normal_rule};
 use std::alloc::Global;
 use tree_budgets::normal_rule_is_rule;

@@ -11,13 +11,14 @@ mod rows;
 ghost use Rattle.std.specs.Prelude.{◌≡◌, ◌<◌, length};
 ghost use Rattle.std.specs.List.{All};
 ghost use Rattle.std.specs.declared.option.Option.TheVariants.{Some};
-ghost use Rattle.equation_file.specs.Accepted.{IsEquation};
+ghost use Rattle.equations.specs.Accepted.{IsEquation};
 ghost use Rattle.normal_rule.specs.Regularity.{IsSubcritical};
 ghost use Rattle.conforming_trees.specs.Conforming.{IsRule};
 ghost use Rattle.tree_pool.specs.declared.TreeId.{TreeId};
 
 use bumpalo::Bump;
-use equation_file::{Equation, read_equation};
+use equation_file::read_equation;
+use equations::Equation;
 use normal_rule::{Rule, check_regularity, normal_rule};
 use plain_trees::print_tree;
 use std::alloc::Global;
@@ -184,7 +185,7 @@ mod tests {
     #[test]
     fn phi4_in_three_dimensions_has_28_trees(rt: HostRuntime) {
         let alloc = rt.alloc();
-        let text = text_for(alloc, "[2, 1, 1, 1]", "-5/2-k", "2", "-3/5", "-u^3+x");
+        let text = text_for(alloc, "[2, 1, 1, 1]", "-5/2-k", "2", "-3/4", "-u^3+x");
         assert!(rt; has_lines(text, 28));
     }
 
@@ -193,7 +194,7 @@ mod tests {
         let alloc = rt.alloc();
         assert!(rt;
             says(
-                text_for(alloc, "[2, 1]", "-3/2-k", "2", "1/4", ""),
+                text_for(alloc, "[2, 1, 1]", "-2-k", "2", "-1/2", ""),
                 b"".as_slice()
             )
         );

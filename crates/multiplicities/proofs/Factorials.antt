@@ -1,8 +1,8 @@
 -- Factorials.
-use Rattle.std.proofs.Common.{◌≡◌, ℕ, zero, suc, ◌+◌, ◌*◌, ◌-◌, ◌<◌, ◌≤◌, refl, arith}
-use Rattle.std.proofs.Math.Nat.{mul-pos}
+use Rattle.std.proofs.Common.{◌≡◌, ℕ, zero, suc, ◌+◌, ◌*◌, ◌-◌, ◌≤◌, refl, arith}
 use Rattle.std.proofs.lemmas.Nat.{mul-le}
-use Rattle.multiplicities.specs.Factorial.{factorial}
+use Rattle.exact_sums.specs.Binomials.{factorial}
+use Rattle.exact_sums.proofs.MultinomialLaws.{factorial_pos}
 
 pub factorial-suc : (n : ℕ) → factorial (suc n) ≡ suc n * factorial n
 unfolding factorial
@@ -15,11 +15,6 @@ factorials_within (suc a) b =
     let e : suc a + b ≡ suc (a + b) = omega arith in
     let h = mul-le (suc a) (factorial a * factorial b) (suc (a + b)) (factorial (a + b)) (omega arith) (factorials_within a b) in
     rw e (omega (arith, h))
-
-pub factorial_pos : (n : ℕ) → 0 < factorial n
-unfolding factorial
-factorial_pos zero = omega arith
-factorial_pos (suc n) = let p : 0 < suc n = omega arith in mul-pos p (factorial_pos n)
 
 pub factorial_grows : (a b : ℕ) → factorial a ≤ factorial (a + b)
 factorial_grows a b =

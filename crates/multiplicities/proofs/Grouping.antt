@@ -5,7 +5,7 @@ use Rattle.std.specs.Ordering.{is_eq, ordering_reverse}
 use Rattle.std.specs.Cmp.{IsTotalOrder}
 use Rattle.std.specs.FinMap.{IsAntisymmetric}
 use Rattle.exact_sums.specs.Sums.{total, product_over}
-use Rattle.multiplicities.specs.Factorial.{factorial}
+use Rattle.exact_sums.specs.Binomials.{factorial}
 use Rattle.ordered_lists.specs.Subs.{count_of}
 use Rattle.ordered_lists.proofs.Unique.{own}
 use Rattle.multiplicities.specs.Distinct.{with_new, distinct_by}

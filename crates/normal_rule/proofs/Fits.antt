@@ -1,35 +1,28 @@
 -- What the normal rule has: a row for each kernel, few edges, small entries, known types.
-use Rattle.std.proofs.Common.{◌≡◌, ℕ, ◌<◌, ◌≤◌, suc, zero, List, [], ◌∷◌, length, map, get_or, refl, ap, sym, ◌∙◌, subst, inl, inr, arith}
+use Rattle.std.proofs.Common.{◌≡◌, ℕ, ◌<◌, ◌≤◌, List, [], ◌∷◌, length, map, refl, ap, sym, ◌∙◌, subst, inl, inr, arith}
 use Rattle.std.specs.List.{All}
 use Rattle.std.proofs.lemmas.List.{length-map}
 use Rattle.std.proofs.lemmas.List.Elements.{All-tail}
 use Rattle.degree_numbers.specs.declared.types.TypeId.{TypeId}
 use Rattle.degree_numbers.specs.declared.types.Types.{Types}
-use Rattle.equation_file.specs.declared.equation.Equation.{Equation}
-use Rattle.equation_file.specs.declared.equation.RightTerm.{RightTerm}
-use Rattle.equation_file.specs.declared.equation.Unknown.{Unknown}
-use Rattle.equation_file.specs.Accepted.{IsEquation, IsUnknown, IsRightTerm, IsFactor}
+use Rattle.degree_numbers.specs.Multi.{IsMultiIndex}
+use Rattle.equations.specs.declared.equation.Equation.{Equation}
+use Rattle.equations.specs.declared.equation.RightTerm.{RightTerm}
+use Rattle.equations.specs.declared.equation.Unknown.{Unknown}
+use Rattle.equations.specs.Accepted.{IsEquation, IsUnknown, IsRightTerm, IsFactor}
 use Rattle.ordered_lists.specs.Members.{IsIn}
 use Rattle.ordered_lists.specs.Subs.{IsSubMultiset}
-use Rattle.ordered_lists.proofs.Members.{all_at, in_map}
+use Rattle.ordered_lists.proofs.Members.{all_at, all_from_members, in_map}
 use Rattle.ordered_lists.proofs.Subs.{sub_member}
 use Rattle.normal_rule.specs.declared.rule.EdgeType.{EdgeType}
 use Rattle.normal_rule.specs.declared.rule.NodeType.{NodeType}
 use Rattle.normal_rule.specs.declared.rule.RuleRow.{RuleRow}
 use Rattle.normal_rule.specs.declared.rule.Rule.{Rule}
 use Rattle.normal_rule.specs.Order.{pair_of, pairs, empty_node}
+use Rattle.normal_rule.specs.OverTypes.{HasDirections}
 use Rattle.normal_rule.specs.Regularity.{HasRows, IsMeasuredNode, AreMeasured}
 use Rattle.normal_rule.specs.Rule.{IsRow, AreRows, IsNormalRule}
 use Rattle.normal_rule.specs.Text.{IsKnownNode, AreKnown}
-
-in_get : {X : Type 0} (xs : List X) (k : ℕ) (d : X) → k < length xs → IsIn (get_or xs k d) xs
-in_get [] k d lt = absurd (omega arith)
-in_get (x ∷ xs) zero d lt = inl refl
-in_get (x ∷ xs) (suc k) d lt = inr (in_get xs k d (omega arith))
-
--- what holds of each member holds of all
-all_from_members : {X : Type 0} (P : X → Type 0) (xs : List X) → ((x : X) → IsIn x xs → P x) → All P xs
-all_from_members P xs h = λ k d lt. h (get_or xs k d) (in_get xs k d lt)
 
 -- a sub-multiset is no longer
 sub_length : {X : Type 0} (ns xs : List X) → IsSubMultiset ns xs → length ns ≤ length xs
@@ -67,6 +60,15 @@ module _ (ty : Types) (count : ℕ) where
             all_from_members (λ e. e.kind.0 < length ty.list) n.edges (λ e m. (all_at (IsFactor ty) t.0.factors (pair_of e) term.factors_known (factor_at n e t.0 t.3 m)).known)
       ]
 
+  node_directions : (u : Unknown) (row : RuleRow) (n : NodeType) → All (IsRightTerm ty count) u.right → IsRow u row → IsIn n row.nodes → All (λ e. IsMultiIndex ty.dims e.p.entries) n.edges
+  node_directions u row n terms h k =
+      elim (h.allowed n k) [
+        | inl e ↦ subst (λ (m : NodeType). All (λ e. IsMultiIndex ty.dims e.p.entries) m.edges) (sym e) (none (λ e. IsMultiIndex ty.dims e.p.entries))
+        | inr t ↦
+            let term = all_at (IsRightTerm ty count) u.right t.0 terms t.1 in
+            all_from_members (λ e. IsMultiIndex ty.dims e.p.entries) n.edges (λ e m. (all_at (IsFactor ty) t.0.factors (pair_of e) term.factors_known (factor_at n e t.0 t.3 m)).derivative)
+      ]
+
   -- what holds of each row of an unknown holds of all
   each_row : (P : RuleRow → Type 0) → ((u : Unknown) (row : RuleRow) → All (IsRightTerm ty count) u.right → IsRow u row → P row) → (us : List Unknown) (rows : List RuleRow) → All (IsUnknown ty count) us → AreRows us rows
       → (row : RuleRow) → IsIn row rows → P row
@@ -102,3 +104,9 @@ pub rule_known : (eq : Equation) (rule : Rule) → IsEquation eq → IsNormalRul
 rule_known eq rule h r =
     all_from_members (λ (row : RuleRow). All (IsKnownNode eq.types) row.nodes) rule.rows
     (each_row eq.types (length eq.parameters) (λ row. All (IsKnownNode eq.types) row.nodes) (λ u row terms is. all_from_members (IsKnownNode eq.types) row.nodes (λ n k. node_known eq.types (length eq.parameters) u row n terms is k)) eq.unknowns rule.rows h.unknowns r)
+
+pub rule_directions : (eq : Equation) (rule : Rule) → IsEquation eq → IsNormalRule eq rule → HasDirections eq.types.dims rule.rows
+rule_directions eq rule h r =
+    let Directed = λ (n : NodeType). All (λ e. IsMultiIndex eq.types.dims e.p.entries) n.edges in
+    all_from_members (λ (row : RuleRow). All Directed row.nodes) rule.rows
+    (each_row eq.types (length eq.parameters) (λ row. All Directed row.nodes) (λ u row terms is. all_from_members Directed row.nodes (λ n k. node_directions eq.types (length eq.parameters) u row n terms is k)) eq.unknowns rule.rows h.unknowns r)

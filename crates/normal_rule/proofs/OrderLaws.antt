@@ -6,8 +6,8 @@ use Rattle.std.specs.Cmp.Lexicographic.{slice_cmp}
 use Rattle.std.specs.FinMap.{IsAntisymmetric, slice_cmp-IsAntisymmetric}
 use Rattle.std.specs.Ordering.{nat_cmp, ordering_then}
 use Rattle.std.proofs.lemmas.List.{length-map}
-use Rattle.equation_file.specs.EdgeTypes.{edge_type_order, node_type_order}
-use Rattle.equation_file.proofs.EdgeTypeLaws.{edge_type_order_exact}
+use Rattle.equations.specs.EdgeTypes.{edge_type_order, node_type_order}
+use Rattle.equations.proofs.EdgeTypeLaws.{edge_type_order_exact}
 use Rattle.normal_rule.specs.declared.rule.EdgeType.{EdgeType}
 use Rattle.normal_rule.specs.declared.rule.NodeType.{NodeType}
 use Rattle.normal_rule.specs.Order.{pair_of, pairs, edge_order, node_order}

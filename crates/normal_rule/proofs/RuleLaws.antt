@@ -6,12 +6,12 @@ use Rattle.std.specs.List.Sorted.{IsStrictlySortedBy}
 use Rattle.std.proofs.lemmas.List.{take-append-drop}
 use Rattle.std.proofs.lemmas.List.Sums.{fold-append}
 use Rattle.std.proofs.lemmas.List.Elements.{All-tail}
-use Rattle.equation_file.specs.declared.equation.Equation.{Equation}
-use Rattle.equation_file.specs.declared.equation.RightTerm.{RightTerm}
-use Rattle.equation_file.specs.declared.equation.Unknown.{Unknown}
-use Rattle.equation_file.specs.Accepted.{IsEquation, IsUnknown, IsRightTerm}
-use Rattle.equation_file.specs.EdgeTypes.{EdgeType as Pair, IsInOrder, edge_type_order}
-use Rattle.equation_file.proofs.EdgeTypeLaws.{edge_type_order_total}
+use Rattle.equations.specs.declared.equation.Equation.{Equation}
+use Rattle.equations.specs.declared.equation.RightTerm.{RightTerm}
+use Rattle.equations.specs.declared.equation.Unknown.{Unknown}
+use Rattle.equations.specs.Accepted.{IsEquation, IsUnknown, IsRightTerm}
+use Rattle.equations.specs.EdgeTypes.{EdgeType as Pair, IsInOrder, edge_type_order}
+use Rattle.equations.proofs.EdgeTypeLaws.{edge_type_order_total}
 use Rattle.degree_numbers.specs.declared.types.Types.{Types}
 use Rattle.ordered_lists.specs.Members.{IsIn}
 use Rattle.ordered_lists.specs.Subs.{IsSubMultiset}

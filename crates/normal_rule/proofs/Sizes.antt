@@ -17,9 +17,9 @@ use Rattle.degree_numbers.specs.declared.types.Types.{Types}
 use Rattle.degree_numbers.specs.Degree.{IsWithin, degree_zero, degree_plus}
 use Rattle.degree_numbers.specs.Types.{AreTypes, type_degree, size_in_units}
 use Rattle.degree_numbers.proofs.TypeBounds.{type_a_within, writable_within, den_small, scaling_within}
-use Rattle.equation_file.specs.declared.equation.Equation.{Equation}
-use Rattle.equation_file.specs.declared.equation.Unknown.{Unknown}
-use Rattle.equation_file.specs.Accepted.{IsEquation, IsUnknown}
+use Rattle.equations.specs.declared.equation.Equation.{Equation}
+use Rattle.equations.specs.declared.equation.Unknown.{Unknown}
+use Rattle.equations.specs.Accepted.{IsEquation, IsUnknown}
 use Rattle.normal_rule.specs.Regularity.{kernel_regularity, regularity_by, regularity_at, regularity_of, edge_regularity, node_regularity, right_side, standard, IsMeasuredNode}
 use Rattle.normal_rule.specs.declared.rule.NodeType.{NodeType}
 use Rattle.normal_rule.specs.declared.rule.EdgeType.{EdgeType}

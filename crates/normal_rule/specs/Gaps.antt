@@ -3,7 +3,7 @@
 --   rows_gap eq rows == the least of these over the rows
 use Rattle.std.specs.Prelude.{ℕ, ℤ, pos, List, fold, ◌-◌, ◌^◌}
 use Rattle.std.specs.Int.{int_min}
-use Rattle.equation_file.specs.declared.equation.Equation.{Equation}
+use Rattle.equations.specs.declared.equation.Equation.{Equation}
 use Rattle.normal_rule.specs.declared.rule.NodeType.{NodeType}
 use Rattle.normal_rule.specs.declared.rule.RuleRow.{RuleRow}
 use Rattle.normal_rule.specs.Regularity.{difference}

@@ -4,10 +4,10 @@
 --   nodes_of right == the node types that the terms of a right side allow, in their order, each once
 --   row_of u, rule_of eq == the row of an unknown, and the rule
 use Rattle.std.specs.Prelude.{List, [], ◌∷◌, ◌++◌, map, fold}
-use Rattle.equation_file.specs.declared.equation.Equation.{Equation}
-use Rattle.equation_file.specs.declared.equation.RightTerm.{RightTerm}
-use Rattle.equation_file.specs.declared.equation.Unknown.{Unknown}
-use Rattle.equation_file.specs.EdgeTypes.{EdgeType as Pair}
+use Rattle.equations.specs.declared.equation.Equation.{Equation}
+use Rattle.equations.specs.declared.equation.RightTerm.{RightTerm}
+use Rattle.equations.specs.declared.equation.Unknown.{Unknown}
+use Rattle.equations.specs.EdgeTypes.{EdgeType as Pair}
 use Rattle.ordered_lists.specs.Members.{insert_all}
 use Rattle.normal_rule.specs.declared.rule.EdgeType.{EdgeType}
 use Rattle.normal_rule.specs.declared.rule.NodeType.{NodeType}

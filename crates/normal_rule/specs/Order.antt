@@ -9,8 +9,8 @@ use Rattle.std.specs.declared.cmp.Ordering.{Ordering}
 use Rattle.std.specs.Ordering.{nat_cmp, on, then_cmp}
 use Rattle.std.specs.Cmp.{IsTotalOrder, then_total, on_total, nat_cmp_total}
 use Rattle.std.specs.Cmp.Lexicographic.{slice_cmp, lists_total}
-use Rattle.equation_file.specs.EdgeTypes.{edge_type_order, EdgeType as Pair}
-use Rattle.equation_file.proofs.EdgeTypeLaws.{edge_type_order_total}
+use Rattle.equations.specs.EdgeTypes.{edge_type_order, EdgeType as Pair}
+use Rattle.equations.proofs.EdgeTypeLaws.{edge_type_order_total}
 use Rattle.normal_rule.specs.declared.rule.EdgeType.{EdgeType}
 use Rattle.normal_rule.specs.declared.rule.NodeType.{NodeType}
 

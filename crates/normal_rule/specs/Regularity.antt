@@ -13,13 +13,14 @@
 --   AreMeasured rows == each node type has at most 24 edges, and each entry of their multiindices is at most 4,096
 use Rattle.std.specs.Prelude.{◌≡◌, ◌≤◌, ◌<◌, ◌≤ℤ◌, ℕ, ℤ, pos, ◌+ℤ◌, ◌-ℤ◌, neg_ℤ, int_lt, ◌==◌, Bool, true, if◌then◌else◌, List, [], ◌∷◌, ◌++◌, length, map, fold, slice_get, slice_index_or, Option, Some, None}
 use Rattle.std.specs.List.{All, prefix_len}
+use Rattle.limits.specs.declared.TheConstants.{MOST_EDGES, MOST_DECORATIONS}
 use Rattle.degree_numbers.specs.declared.degree.Degree.{Degree}
 use Rattle.degree_numbers.specs.declared.types.Kind.{Kind}
 use Rattle.degree_numbers.specs.declared.types.Kind.TheVariants.{Noise, Kernel}
 use Rattle.degree_numbers.specs.declared.types.TypeEntry.{TypeEntry}
 use Rattle.degree_numbers.specs.Types.{type_degree, size_in_units}
-use Rattle.equation_file.specs.declared.equation.Equation.{Equation}
-use Rattle.equation_file.specs.declared.equation.Unknown.{Unknown}
+use Rattle.equations.specs.declared.equation.Equation.{Equation}
+use Rattle.equations.specs.declared.equation.Unknown.{Unknown}
 use Rattle.ordered_lists.specs.Members.{IsIn}
 use Rattle.normal_rule.specs.declared.rule.EdgeType.{EdgeType}
 use Rattle.normal_rule.specs.declared.rule.NodeType.{NodeType}
@@ -96,7 +97,7 @@ pub record HasRows (eq : Equation) (rule : Rule) : Type 0 where
   pub empty : (row : RuleRow) → IsIn row rule.rows → IsIn empty_node row.nodes
 
 abbrev pub IsMeasuredNode : NodeType → Type 0
-IsMeasuredNode n = (length n.edges ≤ 24) × All (λ e. All (λ m. m ≤ 4096) e.p.entries) n.edges
+IsMeasuredNode n = (length n.edges ≤ MOST_EDGES) × All (λ e. All (λ m. m ≤ MOST_DECORATIONS) e.p.entries) n.edges
 
 abbrev pub AreMeasured : List RuleRow → Type 0
 AreMeasured rows = All (λ row. All IsMeasuredNode row.nodes) rows

@@ -8,10 +8,10 @@
 --   IsNormal rule == each row is normal
 use Rattle.std.specs.Prelude.{◌≡◌, ◌≢◌, ℕ, ◌+◌, pos, List, [], ◌∷◌, ◌⊎◌, ⊤, length}
 use Rattle.std.specs.List.Sorted.{IsStrictlySortedBy}
-use Rattle.equation_file.specs.declared.equation.Equation.{Equation}
-use Rattle.equation_file.specs.declared.equation.RightTerm.{RightTerm}
-use Rattle.equation_file.specs.declared.equation.Unknown.{Unknown}
-use Rattle.equation_file.specs.EdgeTypes.{IsInOrder}
+use Rattle.equations.specs.declared.equation.Equation.{Equation}
+use Rattle.equations.specs.declared.equation.RightTerm.{RightTerm}
+use Rattle.equations.specs.declared.equation.Unknown.{Unknown}
+use Rattle.equations.specs.EdgeTypes.{IsInOrder}
 use Rattle.ordered_lists.specs.Members.{IsIn}
 use Rattle.ordered_lists.specs.Subs.{IsSubMultiset}
 use Rattle.normal_rule.specs.declared.rule.NodeType.{NodeType}

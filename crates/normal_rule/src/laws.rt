@@ -2,11 +2,12 @@
 ghost use Rattle.std.specs.Prelude.{◌≡◌};
 ghost use Rattle.std.specs.Cmp.{IsTotalOrder};
 ghost use Rattle.std.specs.FinMap.{IsAntisymmetric};
-ghost use Rattle.equation_file.specs.declared.equation.Equation.{Equation};
-ghost use Rattle.equation_file.specs.Accepted.{IsEquation};
-ghost use Rattle.equation_file.specs.EdgeTypes.{node_type_order};
+ghost use Rattle.equations.specs.declared.equation.Equation.{Equation};
+ghost use Rattle.equations.specs.Accepted.{IsEquation};
+ghost use Rattle.equations.specs.EdgeTypes.{node_type_order};
 ghost use Rattle.normal_rule.specs.declared.rule.NodeType.{NodeType};
 ghost use Rattle.normal_rule.specs.declared.rule.Rule.{Rule};
+ghost use Rattle.normal_rule.specs.OverTypes.{IsRule};
 ghost use Rattle.normal_rule.specs.Order.{pairs, edge_order, node_order};
 ghost use Rattle.normal_rule.specs.Regularity.{HasRows, AreMeasured};
 ghost use Rattle.normal_rule.specs.Rule.{IsNormalRule, IsNormal};
@@ -28,9 +29,10 @@ pub fn normal_rule_laws()
 {}
 
 /// The normal rule has what the inequality of regularities and the texts of node types ask: one row for each kernel, with the empty node type; node types of
-/// at most 24 edges with entries of at most 4,096; types of the list.
+/// at most 24 edges with entries of at most 4,096; types of the list; derivatives in the directions of the scaling.
 pub fn normal_rule_fits()
     ensures rows { (eq : Equation) (rule : Rule) → IsEquation eq → IsNormalRule eq rule → HasRows eq rule }
     ensures measured { (eq : Equation) (rule : Rule) → IsEquation eq → IsNormalRule eq rule → AreMeasured rule.rows }
     ensures known { (eq : Equation) (rule : Rule) → IsEquation eq → IsNormalRule eq rule → AreKnown eq.types rule.rows }
+    ensures over_types { (eq : Equation) (rule : Rule) → IsEquation eq → IsNormalRule eq rule → IsRule eq rule }
 {}

@@ -2,15 +2,16 @@
 ghost use Rattle.std.specs.Prelude.{◌≡◌, ◌<◌, ◌≤◌, true, false, length, slice_index_or, IfOk, OnOk, IfErr, OnErr, pos, neg_ℤ, unsigned_abs, ◌*◌};
 ghost use Rattle.std.specs.List.{All, prefix_len};
 ghost use Rattle.std.specs.Int.{int_min};
+ghost use Rattle.limits.specs.declared.TheConstants.{MOST_DECORATIONS};
 ghost use Rattle.degree_numbers.specs.Types.{type_degree, size_in_units};
-ghost use Rattle.equation_file.specs.Accepted.{IsEquation};
+ghost use Rattle.equations.specs.Accepted.{IsEquation};
 ghost use Rattle.normal_rule.specs.Order.{empty_node};
 ghost use Rattle.normal_rule.specs.Gaps.{nodes_gap, rows_gap};
 ghost use Rattle.normal_rule.specs.Regularity.{kernel_regularity, regularity_of, edge_regularity, node_regularity, left_side, right_side, holds, difference, standard, HoldAll, IsSubcritical, IsGap, IsFirstFailure, HasRows, IsMeasuredNode, AreMeasured};
 
 use crate::rule::{EdgeType, NodeType, Rule, RuleRow};
 use degree_numbers::{Degree, Kind, Multi, TypeId};
-use equation_file::{Equation, Unknown};
+use equations::{Equation, Unknown};
 
 /// Where the inequality of regularities fails: the first kernel, the number of its first node type at which it does, and both sides there, in standard parts.
 #[derive(Clone, Copy, Debug, PartialEq, Eq)]
@@ -72,7 +73,7 @@ fn denominator(eq: &Equation) -> u64
 #[tactic(auto, using(crate::proofs::Sizes::scaling_small))]
 fn in_units(eq: &Equation, p: &Multi) -> u64
     requires equation { IsEquation eq.now }
-    requires entries { All (λ m. m ≤ 4096) p.now.entries }
+    requires entries { All (λ m. m ≤ MOST_DECORATIONS) p.now.entries }
     ensures value { result ≡ size_in_units eq.now.types p.now.entries }
     ensures small { result ≤ 204800000000 }
 {
@@ -82,7 +83,7 @@ fn in_units(eq: &Equation, p: &Multi) -> u64
 // What the derivative takes from the regularity.
 fn loss(eq: &Equation, p: &Multi) -> Degree
     requires equation { IsEquation eq.now }
-    requires entries { All (λ m. m ≤ 4096) p.now.entries }
+    requires entries { All (λ m. m ≤ MOST_DECORATIONS) p.now.entries }
     ensures { result ≡ standard (neg_ℤ (pos (size_in_units eq.now.types p.now.entries))) }
 {
     Degree {
@@ -93,7 +94,7 @@ fn loss(eq: &Equation, p: &Multi) -> Degree
 
 fn edge_regularity(eq: &Equation, edge: &EdgeType) -> Degree
     requires equation { IsEquation eq.now }
-    requires entries { All (λ m. m ≤ 4096) edge.now.p.entries }
+    requires entries { All (λ m. m ≤ MOST_DECORATIONS) edge.now.p.entries }
     ensures { result ≡ standard (edge_regularity eq.now edge.now) }
 {
     regularity_of(eq, edge.kind).plus(&loss(eq, &edge.p))

@@ -4,21 +4,20 @@ ghost use Rattle.ordered_lists.specs.Members.{insert_all};
 ghost use Rattle.normal_rule.specs.declared.rule.RuleRefusal.TheVariants.{RuleTooLarge};
 ghost use Rattle.normal_rule.specs.Order.{node_order, empty_node};
 ghost use Rattle.normal_rule.specs.Made.{with_factor, subs_of, nodes_of, row_of, rule_of};
+ghost use Rattle.normal_rule.specs.OverTypes.{IsRule};
 ghost use Rattle.normal_rule.specs.Regularity.{HasRows, AreMeasured};
 ghost use Rattle.normal_rule.specs.Text.{AreKnown};
 ghost use Rattle.normal_rule.specs.Rule.{IsNormalRule, IsNormal, nodes_in, node_count};
 ghost use Rattle.normal_rule.specs.declared.rule.Rule.{Rule};
-ghost use Rattle.equation_file.specs.Accepted.{IsEquation};
+ghost use Rattle.equations.specs.Accepted.{IsEquation};
 
 use crate::rule::{NodeType, Rule, RuleRefusal, RuleRow};
 use degree_numbers::{Multi, TypeId};
-use equation_file::{Equation, RightTerm, Unknown};
+use equations::{Equation, RightTerm, Unknown};
+use limits::MOST_NODE_TYPES;
 use sqlite_items::Items;
 use std::alloc::{AllocError, Global};
 use std::collections::BTreeSet;
-
-// The greatest number of node types that the rows of a rule have together.
-const MOST_NODE_TYPES: usize = 2000;
 
 fn empty_alone(alloc: Global) -> Result<BTreeSet<NodeType>, AllocError>
     ensures { IfOk result (λ s. s.keys ≡ empty_node ∷ []) }
@@ -54,7 +53,7 @@ fn put_all(nodes: Vec<NodeType>, into: &mut BTreeSet<NodeType>) -> Result<(), Al
 // The sub-multisets of a term's factors. Those of the first factors are sub-multisets of all, so what is too large before a factor is so at the end.
 fn sub_multisets(alloc: Global, factors: &[(TypeId, Multi)]) -> Result<Vec<NodeType>, RuleRefusal>
     ensures nodes { IfOk result (λ v. v.items ≡ subs_of factors.now) }
-    ensures large { IfErr result (λ e. e ≡ RuleTooLarge → 2000 < length (subs_of factors.now)) }
+    ensures large { IfErr result (λ e. e ≡ RuleTooLarge → MOST_NODE_TYPES < length (subs_of factors.now)) }
 {
     let mut nodes = empty_alone(alloc)?;
     for factor in factors {
@@ -69,7 +68,7 @@ fn sub_multisets(alloc: Global, factors: &[(TypeId, Multi)]) -> Result<Vec<NodeT
 // The node types that a right side allows.
 fn nodes_of(alloc: Global, right: &[RightTerm]) -> Result<Items<NodeType>, RuleRefusal>
     ensures nodes { IfOk result (λ items. items ≡ nodes_of right.now) }
-    ensures large { IfErr result (λ e. e ≡ RuleTooLarge → 2000 < length (nodes_of right.now)) }
+    ensures large { IfErr result (λ e. e ≡ RuleTooLarge → MOST_NODE_TYPES < length (nodes_of right.now)) }
 {
     let mut nodes = empty_alone(alloc)?;
     for term in right {
@@ -84,8 +83,8 @@ fn nodes_of(alloc: Global, right: &[RightTerm]) -> Result<Items<NodeType>, RuleR
 // The rows of the rule, as long as they have few node types together.
 fn rows_of(alloc: Global, unknowns: &[Unknown]) -> Result<Items<RuleRow>, RuleRefusal>
     ensures rows { IfOk result (λ rows. rows ≡ map row_of unknowns.now) }
-    ensures small { IfOk result (λ rows. nodes_in rows ≤ 2000) }
-    ensures large { IfErr result (λ e. e ≡ RuleTooLarge → 2000 < nodes_in (map row_of unknowns.now)) }
+    ensures small { IfOk result (λ rows. nodes_in rows ≤ MOST_NODE_TYPES) }
+    ensures large { IfErr result (λ e. e ≡ RuleTooLarge → MOST_NODE_TYPES < nodes_in (map row_of unknowns.now)) }
 {
     let mut rows = Items::new(alloc);
     let mut count = 0;
@@ -105,15 +104,15 @@ fn rows_of(alloc: Global, unknowns: &[Unknown]) -> Result<Items<RuleRow>, RuleRe
 
 fn made(alloc: Global, eq: &Equation) -> Result<Rule, RuleRefusal>
     ensures rule { IfOk result (λ rule. rule ≡ rule_of eq.now) }
-    ensures small { IfOk result (λ rule. node_count rule ≤ 2000) }
-    ensures large { IfErr result (λ e. e ≡ RuleTooLarge → 2000 < node_count (rule_of eq.now)) }
+    ensures small { IfOk result (λ rule. node_count rule ≤ MOST_NODE_TYPES) }
+    ensures large { IfErr result (λ e. e ≡ RuleTooLarge → MOST_NODE_TYPES < node_count (rule_of eq.now)) }
 {
     let rows = rows_of(alloc, eq.unknowns.as_slice())?;
     Ok(Rule { rows })
 }
 
 /// The normal rule of an equation: for each kernel the empty node type and the sub-multisets of the factors of each term of its right side (after Bruned,
-/// Hairer and Zambotti). Fails with `RuleTooLarge` exactly where the rows together have more than 2,000 node types, and for want of memory.
+/// Hairer and Zambotti). It is what `list_trees` and `complete` ask of a rule. Fails with `RuleTooLarge` exactly where the rows together have more than 2,000 node types, and for want of memory.
 pub fn normal_rule(alloc: Global, eq: &Equation) -> Result<Rule, RuleRefusal>
     requires { IsEquation eq.now }
     ensures rule { IfOk result (λ rule. IsNormalRule eq.now rule) }
@@ -121,8 +120,9 @@ pub fn normal_rule(alloc: Global, eq: &Equation) -> Result<Rule, RuleRefusal>
     ensures rows { IfOk result (λ rule. HasRows eq.now rule) }
     ensures measured { IfOk result (λ rule. AreMeasured rule.rows) }
     ensures known { IfOk result (λ rule. AreKnown eq.now.types rule.rows) }
-    ensures small { IfOk result (λ rule. node_count rule ≤ 2000) }
-    ensures large { IfErr result (λ e. e ≡ RuleTooLarge → (rule : Rule) × IsNormalRule eq.now rule × (2000 < node_count rule)) }
+    ensures over_types { IfOk result (λ rule. IsRule eq.now rule) }
+    ensures small { IfOk result (λ rule. node_count rule ≤ MOST_NODE_TYPES) }
+    ensures large { IfErr result (λ e. e ≡ RuleTooLarge → (rule : Rule) × IsNormalRule eq.now rule × (MOST_NODE_TYPES < node_count rule)) }
 {
     made(alloc, eq)
 }

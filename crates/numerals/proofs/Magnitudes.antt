@@ -1,6 +1,7 @@
 -- The number that digits write.
-use Rattle.std.proofs.Common.{◌≡◌, ◌≢◌, ℕ, zero, suc, ◌+◌, ◌-◌, ◌*◌, ◌<◌, Bool, true, false, List, [], ◌∷◌, length, take, get_or, refl, ap, sym, ◌∙◌, arith, rules, tests}
-use Rattle.std.specs.Prelude.{◌==◌, ◌&&◌, not}
+use Rattle.std.proofs.Common.{◌≡◌, ◌≢◌, ℕ, zero, suc, ◌+◌, ◌-◌, ◌*◌, ◌<◌, true, false, List, [], ◌∷◌, length, take, get_or, refl, ap, sym, ◌∙◌, arith, rules, tests}
+use Rattle.std.proofs.lemmas.Bool.{and_parts, not-true}
+use Rattle.std.specs.Prelude.{◌==◌, not}
 use Rattle.std.specs.Char.{is_ascii_digit}
 use Rattle.std.specs.Int.{IsInRange}
 use Rattle.std.specs.List.{list_all}
@@ -14,29 +15,20 @@ use Rattle.exact_sums.specs.Saturating.{saturated}
 use Rattle.numerals.specs.Numerals.{numeral, is_numeral}
 use Rattle.numerals.proofs.Numerals.{AreDigitsOf, numeral_digit, numeral_digits, numeral_value}
 
-both : (a b : Bool) → (a && b) ≡ true → (a ≡ true) × (b ≡ true)
-both true true h = (refl, refl)
-both true false h = absurd cc
-both false b h = absurd cc
-
 in_range : (c : ℕ) → is_ascii_digit c ≡ true → IsInRange 48 57 c
 in_range c h = search (rules, tests)
 
 digit_test : (c : ℕ) → IsInRange 48 57 c → is_ascii_digit c ≡ true
 digit_test c h = search (rules, tests)
 
-not_true : (a : Bool) → not a ≡ true → a ≡ false
-not_true true h = absurd cc
-not_true false h = refl
-
 digits_parts : (ds : List ℕ) → is_numeral ds ≡ true → list_all is_ascii_digit ds ≡ true
 digits_parts [] h = absurd cc
-digits_parts (c ∷ cs) h = (both (list_all is_ascii_digit (c ∷ cs)) (not (c == 48)) h).0
+digits_parts (c ∷ cs) h = (and_parts (list_all is_ascii_digit (c ∷ cs)) (not (c == 48)) h).0
 
 digit_at : (ds : List ℕ) (i : ℕ) → list_all is_ascii_digit ds ≡ true → i < length ds → is_ascii_digit (get_or ds i 0) ≡ true
 digit_at [] i h l = absurd (omega arith)
-digit_at (c ∷ cs) zero h l = (both (is_ascii_digit c) (list_all is_ascii_digit cs) h).0
-digit_at (c ∷ cs) (suc i) h l = digit_at cs i (both (is_ascii_digit c) (list_all is_ascii_digit cs) h).1 (omega arith)
+digit_at (c ∷ cs) zero h l = (and_parts (is_ascii_digit c) (list_all is_ascii_digit cs) h).0
+digit_at (c ∷ cs) (suc i) h l = digit_at cs i (and_parts (is_ascii_digit c) (list_all is_ascii_digit cs) h).1 (omega arith)
 
 -- each byte of a numeral is a digit
 pub numeral_at : (ds : List ℕ) (i : ℕ) → is_numeral ds ≡ true → i < length ds → IsInRange 48 57 (get_or ds i 0)
@@ -50,7 +42,7 @@ magnitude_push ds i number next lt range now step =
 all_digits : (ds : List ℕ) → list_all is_ascii_digit ds ≡ true → AllDigits 10 ds
 all_digits [] h = tt
 all_digits (c ∷ cs) h =
-    let t = both (is_ascii_digit c) (list_all is_ascii_digit cs) h in
+    let t = and_parts (is_ascii_digit c) (list_all is_ascii_digit cs) h in
     let range = in_range c t.0 in
     (omega (arith, range, digit_value_digit c range), all_digits cs t.1)
 
@@ -61,8 +53,8 @@ not_eq c h e = let one : (c == 48) ≡ true = grind (arith, nat_tests) in let w 
 pub numeral_back : (ds : List ℕ) → is_numeral ds ≡ true → numeral (digits_value 10 ds) ≡ ds
 numeral_back [] h = absurd cc
 numeral_back (c ∷ cs) h =
-    let t = both (list_all is_ascii_digit (c ∷ cs)) (not (c == 48)) h in
-    numeral_value c cs (all_digits (c ∷ cs) t.0) (not_eq c (not_true (c == 48) t.1))
+    let t = and_parts (list_all is_ascii_digit (c ∷ cs)) (not (c == 48)) h in
+    numeral_value c cs (all_digits (c ∷ cs) t.0) (not_eq c (not-true (c == 48) t.1))
 
 above_at : (n : ℕ) (c : ℕ) (cs : List ℕ) → n ≡ 0 → numeral n ≡ c ∷ cs → c ≡ 48
 above_at n c cs z e =
@@ -77,8 +69,8 @@ value_above c cs (suc n) e h = omega arith
 pub numeral_above : (ds : List ℕ) → is_numeral ds ≡ true → 0 < digits_value 10 ds
 numeral_above [] h = absurd cc
 numeral_above (c ∷ cs) h =
-    let t = both (list_all is_ascii_digit (c ∷ cs)) (not (c == 48)) h in
-    value_above c cs (digits_value 10 (c ∷ cs)) (numeral_back (c ∷ cs) h) (not_eq c (not_true (c == 48) t.1))
+    let t = and_parts (list_all is_ascii_digit (c ∷ cs)) (not (c == 48)) h in
+    value_above c cs (digits_value 10 (c ∷ cs)) (numeral_back (c ∷ cs) h) (not_eq c (not-true (c == 48) t.1))
 
 list_digits : (ds : List ℕ) → AllDigits 10 ds → list_all is_ascii_digit ds ≡ true
 list_digits [] h = refl

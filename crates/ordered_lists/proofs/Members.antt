@@ -1,7 +1,7 @@
 -- Members of joined, mapped and flattened lists, and of what holds of all.
 use Rattle.std.proofs.Common.{◌≡◌, ℕ, ◌<◌, suc, zero, List, [], ◌∷◌, ◌++◌, length, map, get_or, refl, ap, sym, subst, inl, inr, ◌⊎◌, arith}
 use Rattle.std.specs.List.{flat_map, All}
-use Rattle.std.proofs.lemmas.List.Elements.{All-tail}
+use Rattle.std.proofs.lemmas.List.Elements.{All-cons, All-nil, All-tail}
 use Rattle.ordered_lists.specs.Members.{IsIn}
 
 pub in_append_left : {X : Type 0} (n : X) (xs ys : List X) → IsIn n xs → IsIn n (xs ++ ys)
@@ -36,10 +36,14 @@ from_flat_map f n [] h = absurd h
 from_flat_map f n (x ∷ xs) h =
     elim (from_append n (f x) (flat_map f xs) h) [ inl a ↦ (x, inl refl, a) | inr b ↦ let s = from_flat_map f n xs b in (s.0, inr s.1, s.2) ]
 
--- what holds of each element holds of a member
+-- what holds of each element holds of a member, and the other way round
 pub all_at : {X : Type 0} (P : X → Type 0) (xs : List X) (n : X) → All P xs → IsIn n xs → P n
 all_at P [] n a h = absurd h
 all_at P (x ∷ xs) n a h = elim h [ inl e ↦ subst P e (a 0 x (omega arith)) | inr r ↦ all_at P xs n (All-tail P x xs a) r ]
+
+pub all_from_members : {X : Type 0} (P : X → Type 0) (xs : List X) → ((x : X) → IsIn x xs → P x) → All P xs
+all_from_members P [] h = All-nil P
+all_from_members P (x ∷ xs) h = All-cons P x xs (h x (inl refl)) (all_from_members P xs (λ y m. h y (inr m)))
 
 pub member_at : {X : Type 0} (xs : List X) (i : ℕ) (x : X) → i < length xs → x ≡ get_or xs i x → IsIn x xs
 member_at [] i x lt is = absurd (omega arith)

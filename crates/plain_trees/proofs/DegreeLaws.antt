@@ -1,5 +1,6 @@
 -- What does not depend on the order in which the edges of a tree are drawn.
 use Rattle.std.proofs.Common.{◌≡◌, ℕ, zero, suc, ◌==◌, ◌&&◌, Bool, true, false, List, [], ◌∷◌, length, refl, sym, ap, ◌∙◌, subst, arith, Some, None}
+use Rattle.std.proofs.lemmas.Bool.{and_parts}
 use Rattle.std.specs.List.{list_all}
 use Rattle.std.specs.declared.option.Option.{Option}
 use Rattle.std.proofs.lemmas.Bool.Decides.{nat_tests}
@@ -71,11 +72,6 @@ pub canon_types : (ty : Types) (t : Plain) → HasTypes ty t → HasTypes ty (ca
 canon_types ty t h = same_types ty (canon_same t) h
 
 -- planted trees
-both : (a b : Bool) → (a && b) ≡ true → (a ≡ true) × (b ≡ true)
-both true true h = (refl, refl)
-both true false h = absurd cc
-both false b h = absurd cc
-
 zero_test : (x : ℕ) → (x == 0) ≡ true → x ≡ 0
 zero_test x h = grind (arith, nat_tests)
 
@@ -86,7 +82,7 @@ zeros (suc i) = 0 ∷ zeros i
 all_zero : (m : List ℕ) → list_all (λ x. x == 0) m ≡ true → m ≡ zeros (length m)
 all_zero [] h = refl
 all_zero (x ∷ xs) h =
-    let parts = both (x == 0) (list_all (λ x. x == 0) xs) h in
+    let parts = and_parts (x == 0) (list_all (λ x. x == 0) xs) h in
     let first = zero_test x parts.0 in
     let rest = all_zero xs parts.1 in
     cc
@@ -107,7 +103,7 @@ root_multi ty (graft k p c t) h n e = absurd cc
 pub planted_is : (ty : Types) (t : Plain) → HasTypes ty t → planted ty t ≡ true → IsPlanted ty t
 planted_is ty (bare n) h e = absurd cc
 planted_is ty (graft k p c t) h e =
-    let parts = both (is_kernel ty k) (is_empty_tree t) e in
+    let parts = and_parts (is_kernel ty k) (is_empty_tree t) e in
     (k, p, c, kernel_kind (kind_of ty k) parts.0, ap (graft k p c) (empty_is t ty.dims (root_multi ty t h.2) parts.1))
 
 pub is_planted : (ty : Types) (t : Plain) → IsPlanted ty t → planted ty t ≡ true

@@ -1,5 +1,6 @@
 -- What writes a tree is grammatical, has known names, and stands for the tree.
 use Rattle.std.proofs.Common.{◌≡◌, ℕ, zero, suc, ◌<◌, ◌≤◌, Bool, true, false, List, [], ◌∷◌, length, take, drop, map, sum, decimal, Option, Some, None, refl, sym, ap, ◌∙◌, arith, length-take, subst, inl, inr, get_or}
+use Rattle.std.proofs.lemmas.Bool.{and_parts}
 use Rattle.std.proofs.lemmas.Bool.Decides.{nat_tests}
 use Rattle.std.proofs.lemmas.List.{length-map}
 use Rattle.std.proofs.lemmas.Option.{slice_get_cases}
@@ -16,7 +17,6 @@ use Rattle.tree_grammar.specs.Grammar.{IsNumber, IsMulti, IsGrammatical, number_
 use Rattle.tree_grammar.specs.Words.{values, multi_of, AreKnown}
 use Rattle.tree_grammar.proofs.Entries.{decimal_number, decimal_value}
 use Rattle.tree_grammar.proofs.Numbers.{number_found}
-use Rattle.tree_grammar.proofs.Names.{both_true}
 use Rattle.plain_trees.specs.Plain.{Plain, bare, graft, decoration_sum_of}
 use Rattle.plain_trees.specs.Degree.{empty_tree, is_kernel, is_kernel_kind, IsMultiIndex, IsEdge, HasTypes}
 use Rattle.plain_trees.specs.Building.{type_of, plain_of}
@@ -48,7 +48,7 @@ values_back (suc k) (suc d) (x ∷ m) l h r = rw (decimal_value x (omega (arith,
 
 all_zero : (m : List ℕ) → is_zero m ≡ true → AllByRecursion (λ x. x ≡ 0) m
 all_zero [] h = tt
-all_zero (x ∷ m) h = let t = both_true (x == 0) (is_zero m) h in (grind (arith, nat_tests), all_zero m t.1)
+all_zero (x ∷ m) h = let t = and_parts (x == 0) (is_zero m) h in (grind (arith, nat_tests), all_zero m t.1)
 
 -- what holds of the mapped elements holds at each number
 all_at : (P : List ℕ → Type 0) (es : List TypeEntry) (k : ℕ) (e : TypeEntry) → AllByRecursion P (map (λ f. f.name) es) → slice_get es k ≡ Some e → P e.name

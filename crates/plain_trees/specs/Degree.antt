@@ -8,11 +8,10 @@
 --   is_kernel ty k == type k is that of a kernel
 --   planted ty t == the test whether t is planted
 --   IsPlanted ty t == there is exactly one edge at the root, of kernel type, and the decoration of the root is 0
---   IsMultiIndex dims m == m has five entries, and those past the number of directions are 0
+--   IsMultiIndex dims m == m is a multiindex in these directions: the notion of degree_numbers, for use with it
 --   IsEdge ty k p child == type k is in the list, p is a multiindex, and an edge of a noise ends in the empty tree
 --   HasTypes ty t == so it is with each edge of t, and the decoration of each node is a multiindex
-use Rattle.std.specs.Prelude.{ℕ, ◌≡◌, ◌<◌, ◌&&◌, Bool, true, false, pos, neg_ℤ, List, [], ◌∷◌, length, drop}
-use Rattle.std.specs.List.{AllByRecursion}
+use Rattle.std.specs.Prelude.{ℕ, ◌≡◌, ◌<◌, ◌&&◌, Bool, true, false, pos, neg_ℤ, List, [], ◌∷◌, length}
 use Rattle.std.specs.declared.option.Option.{Option}
 use Rattle.std.specs.declared.option.Option.TheVariants.{Some, None}
 use Rattle.degree_numbers.specs.declared.degree.Degree.{Degree}
@@ -21,6 +20,7 @@ use Rattle.degree_numbers.specs.declared.types.Kind.{Kind}
 use Rattle.degree_numbers.specs.declared.types.Kind.TheVariants.{Noise, Kernel}
 use Rattle.degree_numbers.specs.Degree.{degree_plus}
 use Rattle.degree_numbers.specs.Multi.{is_zero}
+pub use Rattle.degree_numbers.specs.Multi.{IsMultiIndex}
 use Rattle.degree_numbers.specs.Types.{type_degree, size_in_units, kind_of}
 use Rattle.plain_trees.specs.Plain.{Plain, bare, graft}
 
@@ -58,10 +58,6 @@ planted ty (graft k p c t) = is_kernel ty k && is_empty_tree t
 
 abbrev pub IsPlanted : Types → Plain → Type 0
 IsPlanted ty t = (k : ℕ) × (p : List ℕ) × (child : Plain) × (kind_of ty k ≡ Some Kernel) × (t ≡ graft k p child empty_tree)
-
-pub record IsMultiIndex (dims : ℕ) (m : List ℕ) : Type 0 where
-  pub entries : length m ≡ 5
-  pub rest : AllByRecursion (λ x. x ≡ 0) (drop dims m)
 
 pub record IsEdge (ty : Types) (k : ℕ) (p : List ℕ) (child : Plain) : Type 0 where
   pub known : k < length ty.list

@@ -3,6 +3,7 @@ ghost use Rattle.std.specs.Prelude.{◌≡◌, ◌≤◌, ◌<◌, ◌↔◌, �
 ghost use Rattle.std.specs.List.{prefix_len};
 ghost use Rattle.std.specs.Ordering.{is_gt};
 ghost use Rattle.std.specs.declared.cmp.Ordering.TheVariants.{Equal};
+ghost use Rattle.limits.specs.declared.TheConstants.{MOST_EDGES};
 ghost use Rattle.plain_trees.specs.Plain.{Plain, edge_count_of, decoration_sum_of, tree_order};
 ghost use Rattle.plain_trees.specs.View.{plain, labelled, grafted, edge_order_of};
 ghost use Rattle.plain_trees.specs.Canon.{canon, with_edge, planted_of, canon_above, IsAtMostNext, IsCanonical, IsSame};
@@ -15,8 +16,8 @@ use std::alloc::{AllocError, Global};
 
 /// The number of edges that are less than this one, from the first on.
 fn place(edges: &[Edge], e: &Edge) -> usize
-    requires small { edge_count_of (grafted [] (map labelled edges.now)) ≤ 24 }
-    requires small_edge { edge_count_of (labelled e.now).child ≤ 24 }
+    requires small { edge_count_of (grafted [] (map labelled edges.now)) ≤ MOST_EDGES }
+    requires small_edge { edge_count_of (labelled e.now).child ≤ MOST_EDGES }
     ensures { result ≡ prefix_len (λ f. is_gt (edge_order_of (labelled e.now) f)) (map labelled edges.now) }
 {
     for i in 0..edges.len() {
@@ -29,8 +30,8 @@ fn place(edges: &[Edge], e: &Edge) -> usize
 
 /// Puts an edge into a list in edge order.
 pub fn insert_edge(edges: &mut Vec<Edge>, e: Edge) -> Result<(), AllocError>
-    requires small { edge_count_of (grafted [] (map labelled edges.old.items)) ≤ 24 }
-    requires small_edge { edge_count_of (labelled e).child ≤ 24 }
+    requires small { edge_count_of (grafted [] (map labelled edges.old.items)) ≤ MOST_EDGES }
+    requires small_edge { edge_count_of (labelled e).child ≤ MOST_EDGES }
     ensures { OnOk result ((n : List ℕ) → grafted n (map labelled edges.new.items) ≡ with_edge (planted_of (labelled e)) (grafted n (map labelled edges.old.items))) }
 {
     let at = place(edges.as_slice(), &e);
@@ -51,7 +52,7 @@ pub fn tree_of(n: Multi, edges: Vec<Edge>) -> Tree
 /// The edge with the canonical form of its subtree.
 #[cycle(canonical)]
 fn canonical_edge(alloc: Global, e: &Edge) -> Result<Edge, TreeError>
-    requires { edge_count_of (labelled e.now).child ≤ 24 }
+    requires { edge_count_of (labelled e.now).child ≤ MOST_EDGES }
     ensures edge { IfOk result (λ f. planted_of (labelled f) ≡ canon_above (planted_of (labelled e.now))) }
     ensures memory { IsOkUnless result TreeError.Memory }
 {
@@ -66,7 +67,7 @@ fn canonical_edge(alloc: Global, e: &Edge) -> Result<Edge, TreeError>
 /// The canonical form of a tree: the same tree with the edges of each node in edge order. Fails only for want of memory.
 #[cycle(canonical)]
 pub fn canonical(alloc: Global, t: &Tree) -> Result<Tree, TreeError>
-    requires { edge_count_of (plain t.now) ≤ 24 }
+    requires { edge_count_of (plain t.now) ≤ MOST_EDGES }
     ensures tree { IfOk result (λ u. plain u ≡ canon (plain t.now)) }
     ensures memory { IsOkUnless result TreeError.Memory }
 {
@@ -84,7 +85,7 @@ pub fn canonical(alloc: Global, t: &Tree) -> Result<Tree, TreeError>
 /// Whether this edge is at most the next one, where there is one.
 fn is_at_most_next(edges: &[Edge], i: usize) -> bool
     requires within { i < length edges.now }
-    requires small { edge_count_of (grafted [] (map labelled (drop i edges.now))) ≤ 24 }
+    requires small { edge_count_of (grafted [] (map labelled (drop i edges.now))) ≤ MOST_EDGES }
     ensures { IsTrue result ↔ IsAtMostNext (map labelled (drop i edges.now)) }
 {
     match edges.get(i + 1) {
@@ -95,7 +96,7 @@ fn is_at_most_next(edges: &[Edge], i: usize) -> bool
 
 /// Whether at each node the edges are in edge order.
 pub fn is_canonical(t: &Tree) -> bool
-    requires { edge_count_of (plain t.now) ≤ 24 }
+    requires { edge_count_of (plain t.now) ≤ MOST_EDGES }
     ensures { IsTrue result ↔ IsCanonical (plain t.now) }
 {
     let edges = t.edges.as_slice();

@@ -1,5 +1,6 @@
 // Degrees of trees, and planted trees.
 ghost use Rattle.std.specs.Prelude.{◌≡◌, ◌↔◌, ◌<◌, ◌≤◌, ℕ, pos, true, length, sum};
+ghost use Rattle.limits.specs.declared.TheConstants.{MOST_DECORATIONS};
 ghost use Rattle.degree_numbers.specs.declared.types.Types.{Types};
 ghost use Rattle.degree_numbers.specs.Types.{AreTypes, type_degree, size_in_units};
 ghost use Rattle.plain_trees.specs.Degree.{degree_of, derivative_degree_of, edge_degree_of, node_degree_of, planted, is_kernel, IsPlanted, HasTypes};
@@ -23,7 +24,7 @@ fn type_degree_of(types: &Types, kind: TypeId) -> Degree
 #[tactic(auto, using(crate::proofs::DegreeBounds::scaling_most, crate::proofs::DegreeBounds::size_most, crate::proofs::DegreeBounds::product_most))]
 fn in_units(types: &Types, m: &Multi) -> i64
     requires types { AreTypes types.now }
-    requires small { sum m.now.entries ≤ 4096 }
+    requires small { sum m.now.entries ≤ MOST_DECORATIONS }
     ensures { result ≡ pos (size_in_units types.now m.now.entries) }
 {
     (types.units.den.unsigned_abs() * m.scaled_size(&types.scaling)) as i64
@@ -33,7 +34,7 @@ fn in_units(types: &Types, m: &Multi) -> i64
 #[tactic(auto, using(crate::proofs::DegreeBounds::size_most))]
 fn derivative_degree(types: &Types, p: &Multi) -> Degree
     requires types { AreTypes types.now }
-    requires small { sum p.now.entries ≤ 4096 }
+    requires small { sum p.now.entries ≤ MOST_DECORATIONS }
     ensures { result ≡ derivative_degree_of types.now p.now.entries }
 {
     Degree {
@@ -47,7 +48,7 @@ fn derivative_degree(types: &Types, p: &Multi) -> Degree
 pub fn edge_degree(types: &Types, kind: TypeId, p: &Multi) -> Degree
     requires types { AreTypes types.now }
     requires known { kind.0 < length types.now.list }
-    requires small { sum p.now.entries ≤ 4096 }
+    requires small { sum p.now.entries ≤ MOST_DECORATIONS }
     ensures { result ≡ edge_degree_of types.now kind.0 p.now.entries }
 {
     type_degree_of(types, kind).plus(&derivative_degree(types, p))
@@ -56,7 +57,7 @@ pub fn edge_degree(types: &Types, kind: TypeId, p: &Multi) -> Degree
 /// The degree of a node: the scaled size of its decoration.
 pub fn node_degree(types: &Types, n: &Multi) -> Degree
     requires types { AreTypes types.now }
-    requires small { sum n.now.entries ≤ 4096 }
+    requires small { sum n.now.entries ≤ MOST_DECORATIONS }
     ensures { result ≡ node_degree_of types.now n.now.entries }
 {
     Degree {

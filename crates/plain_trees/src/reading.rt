@@ -1,10 +1,11 @@
 // Trees are read from their texts.
 ghost use Rattle.std.specs.Prelude.{◌≡◌, ◌≢◌, ◌≤◌, ℕ, List, IfOk, IsTrue, ◌↔◌, IsOkUnless, IfErr};
+ghost use Rattle.limits.specs.declared.TheConstants.{MOST_DECORATIONS};
 ghost use Rattle.degree_numbers.specs.declared.types.Types.{Types};
 ghost use Rattle.degree_numbers.specs.Types.{AreTypes};
 ghost use Rattle.plain_trees.specs.declared.error.TreeError.{TreeError};
 ghost use Rattle.plain_trees.specs.declared.error.TreeError.TheVariants.{Memory};
-ghost use Rattle.plain_trees.specs.Plain.{Plain};
+ghost use Rattle.plain_trees.specs.Plain.{Plain, IsSmall};
 ghost use Rattle.plain_trees.specs.Degree.{HasTypes};
 ghost use Rattle.plain_trees.specs.Reading.{IsTreeOf, PassesTests, IsRefused};
 ghost use Rattle.plain_trees.specs.Text.{tree_text};
@@ -16,10 +17,9 @@ use crate::error::TreeError;
 use crate::text::print_tree;
 use crate::tree::Tree;
 use degree_numbers::Types;
+use limits::MOST_EDGES;
 use std::alloc::Global;
 use tree_grammar::{decorations_in, edges_in, first_unknown, place};
-
-const MOST_EDGES: u64 = 24;
 
 // Whether a text passes the tests that need no tree, or else its first fault.
 fn check_text(types: &Types, text: &[u8], most: u32) -> Result<(), TreeError>
@@ -38,7 +38,7 @@ fn check_text(types: &Types, text: &[u8], most: u32) -> Result<(), TreeError>
         });
     }
     let count = edges_in(text) as u64;
-    if count > MOST_EDGES {
+    if count > u64::from(MOST_EDGES) {
         return Err(TreeError::TooManyEdges { count });
     }
     let total = decorations_in(text);
@@ -51,6 +51,7 @@ fn check_text(types: &Types, text: &[u8], most: u32) -> Result<(), TreeError>
 fn has_text(alloc: Global, types: &Types, t: &Tree, text: &[u8]) -> Result<bool, TreeError>
     requires types { AreTypes types.now }
     requires tree { HasTypes types.now (plain t.now) }
+    requires small { IsSmall (plain t.now) }
     ensures same { IfOk result (λ same. IsTrue same ↔ (tree_text types.now (plain t.now) ≡ text.now)) }
     ensures memory { IsOkUnless result TreeError.Memory }
 {
@@ -60,7 +61,7 @@ fn has_text(alloc: Global, types: &Types, t: &Tree, text: &[u8]) -> Result<bool,
 
 fn read_text(alloc: Global, types: &Types, text: &[u8], most: u32) -> Result<Tree, TreeError>
     requires types { AreTypes types.now }
-    requires most { most ≤ 4096 }
+    requires most { most ≤ MOST_DECORATIONS }
     ensures tree { IfOk result (λ t. IsTreeOf types.now most text.now (plain t)) }
     ensures refusal { IfErr result (λ e. IsRefused types.now most text.now e) }
 {
@@ -89,7 +90,7 @@ fn read_text(alloc: Global, types: &Types, text: &[u8], most: u32) -> Result<Tre
 /// No recursion runs before the number of edges is known. `[xi*xi]` is read as a tree with two edges, `[u[xi]` is refused with `TreeText` at 6.
 pub fn read_tree(alloc: Global, types: &Types, text: &[u8], most: u32) -> Result<Tree, TreeError>
     requires types { AreTypes types.now }
-    requires most { most ≤ 4096 }
+    requires most { most ≤ MOST_DECORATIONS }
     ensures tree { IfOk result (λ t. IsTreeOf types.now most text.now (plain t)) }
     ensures refusal { IfErr result (λ e. IsRefused types.now most text.now e) }
     ensures back { (t : Plain) → IsTreeOf types.now most text.now t → IsOkUnless result TreeError.Memory × IfOk result (λ u. plain u ≡ t) }
@@ -100,7 +101,7 @@ pub fn read_tree(alloc: Global, types: &Types, text: &[u8], most: u32) -> Result
 /// What `read_tree` answers is determined by its clauses, but for want of memory: a text is that of one tree at most, a text that a tree has is not refused, and
 /// no text is refused in two ways.
 pub fn read_tree_laws()
-    ensures tree { (ty : Types) (most : ℕ) (text : List ℕ) (t u : Plain) → AreTypes ty → most ≤ 4096 → IsTreeOf ty most text t → IsTreeOf ty most text u → t ≡ u }
-    ensures tree_or_refusal { (ty : Types) (most : ℕ) (text : List ℕ) (t : Plain) (e : TreeError) → AreTypes ty → most ≤ 4096 → IsTreeOf ty most text t → IsRefused ty most text e → e ≡ Memory }
+    ensures tree { (ty : Types) (most : ℕ) (text : List ℕ) (t u : Plain) → AreTypes ty → most ≤ MOST_DECORATIONS → IsTreeOf ty most text t → IsTreeOf ty most text u → t ≡ u }
+    ensures tree_or_refusal { (ty : Types) (most : ℕ) (text : List ℕ) (t : Plain) (e : TreeError) → AreTypes ty → most ≤ MOST_DECORATIONS → IsTreeOf ty most text t → IsRefused ty most text e → e ≡ Memory }
     ensures refusal { (ty : Types) (most : ℕ) (text : List ℕ) (e f : TreeError) → IsRefused ty most text e → IsRefused ty most text f → e ≢ Memory → f ≢ Memory → e ≡ f }
 {}

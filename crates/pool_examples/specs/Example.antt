@@ -8,7 +8,7 @@ use Rattle.known_types.specs.Known.{kpz}
 use Rattle.plain_trees.specs.Plain.{Plain, graft}
 use Rattle.plain_trees.specs.Degree.{empty_tree}
 use Rattle.tree_pool.specs.Content.{Content, Holds}
-use Rattle.tree_pool.specs.Joined.{planted_by}
+use Rattle.plain_trees.specs.Joined.{planted_by}
 
 abbrev pub none : List ℕ
 none = 0 ∷ 0 ∷ 0 ∷ 0 ∷ 0 ∷ []

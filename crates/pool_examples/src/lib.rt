@@ -1,9 +1,14 @@
 //! Examples of trees and forests by number, on the types of the KPZ equation.
 #![tactic(auto)]
 
+mod beside_a_walk;
+mod slices;
+mod walking_pool;
+
 ghost use Rattle.std.specs.Prelude.{◌≡◌, ◌∷◌, [], IfOk};
 ghost use Rattle.known_types.specs.Known.{kpz};
 ghost use Rattle.tree_pool.specs.Content.{Holds};
+ghost use Rattle.tree_pool.specs.Forests.{Fits};
 ghost use Rattle.pool_examples.specs.Example.{noise_and_slope, IsExample};
 
 use bumpalo::Bump;
@@ -11,7 +16,7 @@ use degree_numbers::{Degree, Multi, TypeId};
 use known_types::kpz_types;
 use std::alloc::Global;
 use std::cmp::Ordering;
-use tree_pool::{EdgeTo, ForestPool, Pool, PoolError, TreeId};
+use tree_pool::{EdgeTo, ForestId, ForestPool, Pool, PoolError, TreeId};
 
 const XI: TypeId = TypeId(0);
 
@@ -138,24 +143,70 @@ pub fn tree_facts(alloc: Global) -> Result<([usize; 2], u32, Degree, Ordering), 
     Ok(([product.0, copy.0], edges, degree, order))
 }
 
-/// The forest of `[xi]` and `[u'(0,1)[xi]]` by its trees in either order, and its join with itself.
+/// The number of the forest of `[xi]` and `[u'(0,1)[xi]]` by its trees in either order, its trees, and those of its join with itself.
+fn pair_of_trees<'a>(
+    alloc: Global,
+    pool: &Pool<'a>,
+    x: &Example,
+    forests: &mut ForestPool<'a>,
+) -> Result<([usize; 2], Vec<TreeId>, Vec<TreeId>), PoolError>
+    requires example { IsExample pool.now x.now.empty.0 x.now.noise.0 x.now.slope.0 }
+    requires fits { Fits forests.old pool.now }
+{
+    let pair = forests.intern(alloc, pool, &[x.slope, x.noise])?;
+    let trees = forests.trees(pair).to_vec(alloc)?;
+    let twice = forests.join(alloc, pool, pair, pair)?;
+    let joined = forests.trees(twice).to_vec(alloc)?;
+    let turned = forests.intern(alloc, pool, &[x.noise, x.slope])?;
+    Ok(([pair.0, turned.0], trees, joined))
+}
+
+/// How the forest of `[xi]` and `[u'(0,1)[xi]]` compares with that of `[u'(0,1)[xi]]` twice and once, and a number of no forest with that of the pair.
+fn orders_of_forests<'a>(
+    alloc: Global,
+    pool: &Pool<'a>,
+    x: &Example,
+    forests: &mut ForestPool<'a>,
+) -> Result<[Ordering; 3], PoolError>
+    requires example { IsExample pool.now x.now.empty.0 x.now.noise.0 x.now.slope.0 }
+    requires fits { Fits forests.old pool.now }
+{
+    let pair = forests.intern(alloc, pool, &[x.slope, x.noise])?;
+    let twice = forests.intern(alloc, pool, &[x.slope, x.slope])?;
+    let once = forests.intern(alloc, pool, &[x.slope])?;
+    let none = ForestId(forests.len());
+    Ok([
+        forests.order(pool, pair, twice),
+        forests.order(pool, pair, once),
+        forests.order(pool, none, pair),
+    ])
+}
+
+/// What `pair_of_trees` answers in new pools.
 pub fn forest_facts(alloc: Global) -> Result<([usize; 2], Vec<TreeId>, Vec<TreeId>), PoolError> {
     let arena = Bump::new(alloc);
     let types = kpz_types(alloc)?;
     let mut pool = Pool::new(alloc, &arena, &types)?;
     let x = intern_example(alloc, &mut pool)?;
     let mut forests = ForestPool::new(alloc, &arena)?;
-    let pair = forests.intern(alloc, &pool, &[x.slope, x.noise])?;
-    let trees = forests.trees(pair).to_vec(alloc)?;
-    let twice = forests.join(alloc, &pool, pair, pair)?;
-    let joined = forests.trees(twice).to_vec(alloc)?;
-    let turned = forests.intern(alloc, &pool, &[x.noise, x.slope])?;
-    Ok(([pair.0, turned.0], trees, joined))
+    pair_of_trees(alloc, &pool, &x, &mut forests)
+}
+
+/// What `orders_of_forests` answers in new pools.
+pub fn forest_orders(alloc: Global) -> Result<[Ordering; 3], PoolError> {
+    let arena = Bump::new(alloc);
+    let types = kpz_types(alloc)?;
+    let mut pool = Pool::new(alloc, &arena, &types)?;
+    let x = intern_example(alloc, &mut pool)?;
+    let mut forests = ForestPool::new(alloc, &arena)?;
+    orders_of_forests(alloc, &pool, &x, &mut forests)
 }
 
 #[cfg(test)]
 mod tests {
     use super::*;
+    use crate::beside_a_walk::sizes_beside_a_walk;
+    use crate::slices::{edges_without_pool, trees_without_forest_pool};
 
     #[test]
     fn a_tree_has_one_number(rt: HostRuntime) {
@@ -181,5 +232,22 @@ mod tests {
         assert!(rt; numbers == [0, 0]);
         assert!(rt; trees.as_slice() == [noise, slope].as_slice());
         assert!(rt; joined.as_slice() == [noise, noise, slope, slope].as_slice());
+    }
+
+    #[test]
+    fn forests_go_by_length_first(rt: HostRuntime) {
+        let orders = forest_orders(rt.alloc()).expect(&rt, "memory");
+        assert!(rt; orders == [Ordering::Less, Ordering::Greater, Ordering::Less]);
+    }
+
+    #[test]
+    fn a_walk_gives_the_same_numbers(rt: HostRuntime) {
+        assert!(rt; sizes_beside_a_walk(rt.alloc()) == Some((true, [359, 359])));
+    }
+
+    #[test]
+    fn slices_are_read_without_their_pools(rt: HostRuntime) {
+        assert!(rt; edges_without_pool(rt.alloc()).expect(&rt, "memory") == 2);
+        assert!(rt; trees_without_forest_pool(rt.alloc()).expect(&rt, "memory") == 2);
     }
 }

@@ -9,7 +9,7 @@ use Rattle.std.specs.BTreeSet.{insert_key}
 use Rattle.std.proofs.lemmas.Cmp.{on_total, then_total, nat_cmp_total}
 use Rattle.std.proofs.lemmas.List.{length-map}
 use Rattle.std.proofs.lemmas.Map.Lookups.{exact_unsigned}
-use Rattle.equation_file.specs.declared.equation.Equation.{Equation}
+use Rattle.equations.specs.declared.equation.Equation.{Equation}
 use Rattle.ordered_lists.specs.Members.{IsIn, insert_all}
 use Rattle.ordered_lists.proofs.Insertion.{insert_all_new, insert_all_sorted}
 use Rattle.ordered_lists.proofs.Lengths.{length-within}

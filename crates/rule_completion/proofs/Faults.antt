@@ -1,6 +1,6 @@
 -- What is too large at a stage.
 use Rattle.std.proofs.Common.{◌≡◌, ℕ, suc, sym, subst}
-use Rattle.equation_file.specs.declared.equation.Equation.{Equation}
+use Rattle.equations.specs.declared.equation.Equation.{Equation}
 use Rattle.normal_rule.specs.declared.rule.Rule.{Rule}
 use Rattle.rule_stages.specs.Stages.{HasTooLargeNext}
 use Rattle.rule_completion.specs.Faults.{IsListingFault}

@@ -1,6 +1,6 @@
 -- What stands in the way of a stage.
 --   IsListingFault eq rule what == this is what stands in the way of the listing of the rule
-use Rattle.equation_file.specs.declared.equation.Equation.{Equation}
+use Rattle.equations.specs.declared.equation.Equation.{Equation}
 use Rattle.normal_rule.specs.declared.rule.Rule.{Rule}
 use Rattle.conforming_trees.specs.Listed.{HasTooManyTrees, HasTooLargeTree}
 use Rattle.rule_completion.specs.declared.refusal.StageFault.{StageFault}

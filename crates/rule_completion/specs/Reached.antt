@@ -4,7 +4,7 @@
 --   IsListable eq rule == not more than 4,000 listed trees, and none that is too large
 --   IsStageFault eq base j what == stage j is the first at which something is too large: its listing, or its rule
 use Rattle.std.specs.Prelude.{ℕ, zero, suc, ◌<◌}
-use Rattle.equation_file.specs.declared.equation.Equation.{Equation}
+use Rattle.equations.specs.declared.equation.Equation.{Equation}
 use Rattle.normal_rule.specs.declared.rule.Rule.{Rule}
 use Rattle.conforming_trees.specs.Listed.{HasTooManyTrees, HasTooLargeTree}
 use Rattle.rule_stages.specs.Stages.{IsNextStage, IsStage, HasTooLargeNext}

@@ -3,7 +3,7 @@ ghost use Rattle.std.specs.Prelude.{◌≡◌, ◌≤◌, ◌<◌, ℕ, ℤ, len
 ghost use Rattle.std.specs.List.{All};
 ghost use Rattle.std.specs.Option.{option_map};
 ghost use Rattle.std.specs.declared.option.Option.TheVariants.{Some};
-ghost use Rattle.equation_file.specs.Accepted.{IsEquation};
+ghost use Rattle.equations.specs.Accepted.{IsEquation};
 ghost use Rattle.plain_trees.specs.Plain.{Plain};
 ghost use Rattle.normal_rule.specs.Rule.{IsNormalRule, node_count};
 ghost use Rattle.normal_rule.specs.Regularity.{IsSubcritical, IsGap};
@@ -19,7 +19,7 @@ ghost use Rattle.rule_completion.specs.Reached.{IsReached, IsStageFault};
 
 use crate::refusal::StageRefusal;
 use crate::stage::{list_stage, node_type_count, stage_after};
-use equation_file::Equation;
+use equations::Equation;
 use normal_rule::Rule;
 use std::alloc::Global;
 use tree_budgets::normal_rule_is_rule;
@@ -47,7 +47,8 @@ fn rule_of<'r>(base: &'r Rule, reached: &'r Option<Rule>) -> &'r Rule
 
 /// The completion of the normal rule of an equation (after Bruned, Hairer and Zambotti), for which the inequality of regularities holds: stage 0 is the rule, and
 /// each stage after it the least normal rule that holds the one before and all that contractions of its listed trees make. Fails with the first stage, from 0, that
-/// is too large: the stage whose listing is refused, or the stage whose rule has more than 2,000 node types; and for want of memory.
+/// is too large: the stage whose listing is refused, or the stage, from 1, whose rule has more than 2,000 node types; and for want of memory. The node types of the
+/// base are not counted: a base of more than 2,000, which `normal_rule` never answers, is listed, and where that is not refused, stage 1 is too large.
 pub fn complete<'a>(
     alloc: Global,
     eq: &Equation,

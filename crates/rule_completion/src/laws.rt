@@ -1,7 +1,7 @@
 // Laws of the answers of a completion.
 ghost use Rattle.std.specs.Prelude.{◌≡◌, ◌≤◌, ℕ};
-ghost use Rattle.equation_file.specs.declared.equation.Equation.{Equation};
-ghost use Rattle.equation_file.specs.Accepted.{IsEquation};
+ghost use Rattle.equations.specs.declared.equation.Equation.{Equation};
+ghost use Rattle.equations.specs.Accepted.{IsEquation};
 ghost use Rattle.normal_rule.specs.declared.rule.Rule.{Rule};
 ghost use Rattle.normal_rule.specs.Rule.{node_count};
 ghost use Rattle.rule_stages.specs.Stages.{IsNextStage, IsStage, IsCompletion};

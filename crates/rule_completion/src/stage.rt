@@ -3,7 +3,7 @@ ghost use Rattle.std.specs.Prelude.{◌≡◌, ◌<◌, ◌≤◌, ◌+◌, ◌^
 ghost use Rattle.std.specs.List.{All};
 ghost use Rattle.std.specs.Option.{option_map};
 ghost use Rattle.std.specs.declared.option.Option.TheVariants.{Some};
-ghost use Rattle.equation_file.specs.Accepted.{IsEquation};
+ghost use Rattle.equations.specs.Accepted.{IsEquation};
 ghost use Rattle.normal_rule.specs.Regularity.{IsSubcritical};
 ghost use Rattle.normal_rule.specs.Rule.{nodes_in, node_count};
 ghost use Rattle.conforming_trees.specs.Conforming.{IsRule};
@@ -19,7 +19,7 @@ ghost use Rattle.rule_completion.specs.declared.refusal.StageRefusal.TheVariants
 ghost use Rattle.rule_completion.specs.Faults.{IsListingFault};
 
 use crate::refusal::{StageFault, StageRefusal};
-use equation_file::Equation;
+use equations::Equation;
 use normal_rule::{Rule, RuleRefusal, RuleRow};
 use rule_steps::next_stage;
 use std::alloc::Global;

@@ -10,10 +10,11 @@ use Rattle.degree_numbers.specs.Types.{AreTypes, AreNames, IsWritable, noise_cou
 use Rattle.degree_numbers.specs.declared.Multi.{Multi}
 use Rattle.degree_numbers.specs.declared.TypeId.{TypeId}
 use Rattle.degree_numbers.specs.declared.Types.{Types}
-use Rattle.equation_file.specs.declared.RightTerm.{RightTerm}
-use Rattle.equation_file.specs.Accepted.{IsEquation, IsUnknown, IsRightTerm, IsFactor}
-use Rattle.equation_file.specs.EdgeTypes.{IsInOrder, edge_type_order}
-use Rattle.equation_file.proofs.EdgeTypeLaws.{edge_type_order_total}
+use Rattle.equations.specs.declared.RightTerm.{RightTerm}
+use Rattle.equations.specs.Accepted.{IsEquation, IsUnknown, IsRightTerm, IsFactor}
+use Rattle.equations.specs.EdgeTypes.{IsInOrder, edge_type_order}
+use Rattle.equations.proofs.Directions.{zeros_behind}
+use Rattle.equations.proofs.EdgeTypeLaws.{edge_type_order_total}
 use Rattle.ordered_lists.proofs.Counts.{sorted-cons}
 use Rattle.known_types.specs.Known.{kpz, phi43}
 use Rattle.known_types.proofs.KnownTypes.{kpz_types, phi43_types}
@@ -69,23 +70,23 @@ module _ (ty : Types) (dims : 2 ≤ ty.dims) (types : length ty.list ≡ 2) (noi
   noise = record {
     known = omega (arith, types);
     small = all_of (λ n. n ≤ 8) zero_multi.entries (omega arith, (omega arith, (omega arith, (omega arith, (omega arith, tt)))));
-    within = λ i h. zero_entries i;
+    derivative = record { entries = refl; rest = zeros_behind zero_multi.entries ty.dims (λ i h. zero_entries i) };
     noise = λ h. refl;
   }
 
-  variable : (p : Multi) → All (λ n. n ≤ 8) p.entries → ((i : ℕ) → 2 ≤ i → slice_index p.entries i ≡ 0) → IsFactor ty (u_by p)
-  variable p small zeros = record {
+  variable : (p : Multi) → length p.entries ≡ 5 → All (λ n. n ≤ 8) p.entries → ((i : ℕ) → 2 ≤ i → slice_index p.entries i ≡ 0) → IsFactor ty (u_by p)
+  variable p five small zeros = record {
     known = omega (arith, types);
     small = small;
-    within = λ i h. zeros i (omega (arith, dims));
+    derivative = record { entries = five; rest = zeros_behind p.entries ty.dims (λ i h. zeros i (omega (arith, dims))) };
     noise = λ h. absurd (omega (arith, noises));
   }
 
   flat : IsFactor ty (u_by zero_multi)
-  flat = variable zero_multi (all_of (λ n. n ≤ 8) zero_multi.entries (omega arith, (omega arith, (omega arith, (omega arith, (omega arith, tt)))))) (λ i h. zero_entries i)
+  flat = variable zero_multi refl (all_of (λ n. n ≤ 8) zero_multi.entries (omega arith, (omega arith, (omega arith, (omega arith, (omega arith, tt)))))) (λ i h. zero_entries i)
 
   steep : IsFactor ty (u_by slope)
-  steep = variable slope (all_of (λ n. n ≤ 8) slope.entries (omega arith, (omega arith, (omega arith, (omega arith, (omega arith, tt)))))) slope_entries
+  steep = variable slope refl (all_of (λ n. n ≤ 8) slope.entries (omega arith, (omega arith, (omega arith, (omega arith, (omega arith, tt)))))) slope_entries
 
 abbrev one_noise_at_most : Types → List (TypeId × Multi) → Type 0
 one_noise_at_most ty fs = length (filter (λ f. nat_lt f.0.0 (noise_count ty)) fs) ≤ 1

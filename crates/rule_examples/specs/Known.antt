@@ -7,8 +7,8 @@ use Rattle.std.specs.Prelude.{ℤ, pos, neg_ℤ, List, [], ◌∷◌}
 use Rattle.degree_numbers.specs.declared.Multi.{Multi}
 use Rattle.degree_numbers.specs.declared.TypeId.{TypeId}
 use Rattle.degree_numbers.specs.declared.Types.{Types}
-use Rattle.equation_file.specs.declared.Equation.{Equation}
-use Rattle.equation_file.specs.declared.RightTerm.{RightTerm}
+use Rattle.equations.specs.declared.Equation.{Equation}
+use Rattle.equations.specs.declared.RightTerm.{RightTerm}
 use Rattle.known_types.specs.Known.{kpz, phi43}
 
 abbrev pub zero_multi : Multi

@@ -2,11 +2,11 @@
 #![tactic(auto)]
 
 ghost use Rattle.std.specs.Prelude.{◌≡◌, IfOk, pos, neg_ℤ, [], ◌∷◌};
-ghost use Rattle.equation_file.specs.Accepted.{IsEquation};
+ghost use Rattle.equations.specs.Accepted.{IsEquation};
 ghost use Rattle.rule_examples.specs.Known.{phi43_equation, kpz_equation, square_equation, equation, term, xi, u_by};
 
 use degree_numbers::{Degree, Multi, TypeId, Types};
-use equation_file::{Equation, RightTerm, Unknown};
+use equations::{Equation, RightTerm, Unknown};
 use known_types::{kpz_types, phi43_types};
 use sqlite_items::Items;
 use std::alloc::{AllocError, Global};

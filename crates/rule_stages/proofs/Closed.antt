@@ -1,5 +1,6 @@
 -- The completion of a rule is closed under cutting: read down the tree.
 use Rattle.std.proofs.Common.{◌≡◌, ℕ, ◌+◌, ◌<◌, ◌==◌, true, false, Bool, cond, not, ◌&&◌, ◌||◌, List, [], ◌∷◌, ◌++◌, length, refl, sym, ap, ◌∙◌, subst, arith, inl, inr, Ordering, Less, Equal, Greater}
+use Rattle.std.proofs.lemmas.Bool.{and_parts, not-true}
 use Rattle.std.specs.List.{AllByRecursion}
 use Rattle.std.specs.Ordering.{is_lt}
 use Rattle.std.proofs.lemmas.Bool.Decides.{nat_tests}
@@ -7,8 +8,8 @@ use Rattle.degree_numbers.specs.declared.types.Types.{Types}
 use Rattle.degree_numbers.specs.Multi.{is_zero, plus_of}
 use Rattle.degree_numbers.specs.Types.{kind_of}
 use Rattle.degree_numbers.specs.Degree.{degree_order, degree_zero}
-use Rattle.equation_file.specs.declared.equation.Equation.{Equation}
-use Rattle.equation_file.specs.Accepted.{IsEquation}
+use Rattle.equations.specs.declared.equation.Equation.{Equation}
+use Rattle.equations.specs.Accepted.{IsEquation}
 use Rattle.ordered_lists.proofs.Subs.{sub_refl}
 use Rattle.plain_trees.specs.Plain.{Plain, bare, graft, edge_count_of}
 use Rattle.plain_trees.specs.Canon.{canon}
@@ -31,14 +32,6 @@ use Rattle.rule_stages.proofs.Joins.{put-some}
 use Rattle.rule_stages.proofs.Contracted.{component-additions, conforms-joined}
 
 -- Boolean tests that hold together
-pub both : (a b : Bool) → (a && b) ≡ true → (a ≡ true) × (b ≡ true)
-both true b h = (refl, h)
-both false b h = absurd cc
-
-negated : (a : Bool) → not a ≡ true → a ≡ false
-negated true h = absurd cc
-negated false h = refl
-
 less : (o : Ordering) → is_lt o ≡ true → o ≡ Less
 less Less h = refl
 less Equal h = absurd cc
@@ -54,7 +47,7 @@ root-canon_allowed rule t h = (h.0, h.1, (h.2.0, h.2.1, h.2.2 ∙ sym (node_type
 -- a component that is extracted is, in canonical form, a listed tree
 pub part-listed : (eq : Equation) (rule : Rule) (t : Plain) → IsPart eq rule t → is_extracted eq.types t ≡ true → IsListed eq rule (canon t)
 part-listed eq rule t part extracted =
-    let tests = both (not (planted eq.types t)) (is_below_zero (degree_of eq.types t)) extracted in
+    let tests = and_parts (not (planted eq.types t)) (is_below_zero (degree_of eq.types t)) extracted in
     let count = canon_count t in
     let some = some-edge t part.edges in
     record {
@@ -62,7 +55,7 @@ part-listed eq rule t part extracted =
         canonical = canon_canonical t;
         types = canon_types eq.types t part.types;
         conforming = record { root = root-canon_allowed rule t part.root; above = conforms-canon eq.types rule t part.above };
-        unplanted = sym (same_planted eq.types (canon_same t)) ∙ negated (planted eq.types t) tests.0;
+        unplanted = sym (same_planted eq.types (canon_same t)) ∙ not-true (planted eq.types t) tests.0;
         edge = omega (arith, count, some);
       };
       negative = ap (λ d. degree_order d degree_zero) (canon_degree eq.types t) ∙ less (degree_order (degree_of eq.types t) degree_zero) tests.1;
@@ -77,7 +70,7 @@ plus-zero [] [] count h k z = refl
 plus-zero [] (y ∷ s) count h k z = absurd (omega (arith, h, k))
 plus-zero (x ∷ p) [] count h k z = refl
 plus-zero (x ∷ p) (y ∷ s) count h k z =
-    let tests = both (y == 0) (is_zero s) z in
+    let tests = and_parts (y == 0) (is_zero s) z in
     let none = is_nought y tests.0 in
     let first : x + y ≡ x = omega (arith, none) in
     let rest : plus_of p s ≡ p = plus-zero p s (length p) refl (omega (arith, h, k)) tests.1 in
@@ -91,8 +84,8 @@ node_type-untouched : (ty : Types) (m : CutTree) → HasMultis ty.dims m → Has
 node_type-untouched ty (node a l) multis types h f = refl
 node_type-untouched ty (edge true s k p c r) multis types h f = absurd cc
 node_type-untouched ty (edge false s k p c r) multis types h f =
-    let here = both (is_zero s || false) (fits (leaves c) c && fits false r) f in
-    let rest = both (fits (leaves c) c) (fits false r) here.1 in
+    let here = and_parts (is_zero s || false) (fits (leaves c) c && fits false r) f in
+    let rest = and_parts (fits (leaves c) c) (fits false r) here.1 in
     let zero = idle (is_zero s) true 0 here.0 in
     let same : plus_of p s ≡ p = plus-zero p s 5 types.0.decoration.entries multis.0.entries zero in
     ap (λ (q : List ℕ). put_label (k, q) (node_type_of (contracted r))) same ∙ ap (put_label (k, p)) (node_type-untouched ty r multis.2 types.2 h rest.1)
@@ -147,12 +140,12 @@ module _ (eq : Equation) (rule : Rule) (equation : IsEquation eq) (is_rule : IsR
   pub contracted-conforms : (touched : Bool) (m : CutTree) → HasMultis eq.types.dims m → HasTypes eq.types (tree_of m) → ConformsAbove eq.types rule (tree_of m) → fits touched m ≡ true → AllByRecursion Extracted (components_above m) → ConformsAbove eq.types rule (contracted m)
   contracted-conforms touched (node a l) multis types conforms f extracted = tt
   contracted-conforms touched (edge true s k p c r) multis types conforms f extracted =
-      let tests = both (fits true c) (fits touched r) (both (is_zero s || (touched && false)) (fits true c && fits touched r) f).1 in
+      let tests = and_parts (fits true c) (fits touched r) (and_parts (is_zero s || (touched && false)) (fits true c && fits touched r) f).1 in
       conforms-joined eq.types rule (contracted c) (contracted r)
       (contracted-conforms true c multis.1 types.1 conforms.1 tests.0 (all-left (components_above c) (components_above r) extracted))
       (contracted-conforms touched r multis.2 types.2 conforms.2 tests.1 (all-right (components_above c) (components_above r) extracted))
   contracted-conforms touched (edge false s k p c r) multis types conforms f extracted =
-      let tests = both (fits (leaves c) c) (fits touched r) (both (is_zero s || (touched && true)) (fits (leaves c) c && fits touched r) f).1 in
+      let tests = and_parts (fits (leaves c) c) (fits touched r) (and_parts (is_zero s || (touched && true)) (fits (leaves c) c && fits touched r) f).1 in
       let own = cond (leaves c) (root_component c ∷ components_above c) (components_above c) in
       let here = all-left own (components_above r) extracted in (
         outside-allowed k c (leaves c) refl multis.1 types.1 conforms.0 conforms.1 tests.0 here,

@@ -1,8 +1,9 @@
 -- The completion of a rule is closed under cutting: by the definition of cuttings.
 use Rattle.std.proofs.Common.{◌≡◌, ℕ, ◌/◌, true, false, Bool, cond, List, [], ◌∷◌, filter, refl, sym, ap, ◌∙◌, subst, inl, inr, unsigned_abs}
+use Rattle.std.proofs.lemmas.Bool.{and_parts}
 use Rattle.std.specs.List.{AllByRecursion, list_all}
-use Rattle.equation_file.specs.declared.equation.Equation.{Equation}
-use Rattle.equation_file.specs.Accepted.{IsEquation}
+use Rattle.equations.specs.declared.equation.Equation.{Equation}
+use Rattle.equations.specs.Accepted.{IsEquation}
 use Rattle.ordered_lists.specs.Members.{IsIn}
 use Rattle.plain_trees.specs.Plain.{Plain}
 use Rattle.plain_trees.specs.Canon.{canon}
@@ -16,7 +17,7 @@ use Rattle.conforming_trees.specs.Conforming.{IsConforming, IsRule}
 use Rattle.conforming_trees.specs.Listed.{IsListed}
 use Rattle.rule_stages.specs.Closure.{AreComponentsListed, IsQuotientConforming, IsClosedUnderCutting}
 use Rattle.rule_stages.specs.Stages.{IsNextStage}
-use Rattle.rule_stages.proofs.Closed.{both, part-listed, quotient-conforms, components-are_parts}
+use Rattle.rule_stages.proofs.Closed.{part-listed, quotient-conforms, components-are_parts}
 use Rattle.rule_stages.proofs.Components.{IsPart}
 use Rattle.rule_stages.proofs.ReadDown.{IsReadDown, marking_read_down}
 
@@ -30,7 +31,7 @@ from_filter p x (y ∷ ys) h = from_filter-at p x y ys (p y) refl (from_filter p
 
 all-passing : (p : Plain → Bool) (ts : List Plain) → list_all p ts ≡ true → AllByRecursion (λ t. p t ≡ true) ts
 all-passing p [] h = tt
-all-passing p (t ∷ ts) h = let tests = both (p t) (list_all p ts) h in (tests.0, all-passing p ts tests.1)
+all-passing p (t ∷ ts) h = let tests = and_parts (p t) (list_all p ts) h in (tests.0, all-passing p ts tests.1)
 
 -- each part that is extracted is listed
 each-listed : (eq : Equation) (rule : Rule) (ts : List Plain) → AllByRecursion (IsPart eq rule) ts → AllByRecursion (λ t. is_extracted eq.types t ≡ true) ts → (t : Plain) → IsIn t ts → IsListed eq rule (canon t)

@@ -3,7 +3,7 @@ use Rattle.std.proofs.Common.{◌≡◌, ℕ, true, false, Bool, cond, List, [],
 use Rattle.std.specs.List.{AllByRecursion}
 use Rattle.degree_numbers.specs.declared.types.Types.{Types}
 use Rattle.degree_numbers.specs.Multi.{plus_of}
-use Rattle.equation_file.specs.declared.equation.Equation.{Equation}
+use Rattle.equations.specs.declared.equation.Equation.{Equation}
 use Rattle.ordered_lists.specs.Subs.{IsSubMultiset}
 use Rattle.ordered_lists.proofs.Subs.{sub_refl}
 use Rattle.plain_trees.specs.Plain.{Plain, bare, graft}

@@ -2,7 +2,7 @@
 use Rattle.std.proofs.Common.{◌≡◌, ℕ, zero, suc, ℤ, pos, ◌≤ℤ◌, Bool, true, false, refl, sym, ap, ◌∙◌, subst, arith}
 use Rattle.std.proofs.lemmas.Int.{ints}
 use Rattle.degree_numbers.specs.Types.{type_degree}
-use Rattle.equation_file.specs.declared.equation.Equation.{Equation}
+use Rattle.equations.specs.declared.equation.Equation.{Equation}
 use Rattle.ordered_lists.specs.Members.{IsIn}
 use Rattle.normal_rule.specs.declared.rule.NodeType.{NodeType}
 use Rattle.normal_rule.specs.declared.rule.Rule.{Rule}

@@ -1,6 +1,6 @@
 -- The next stage of a rule is the least normal rule that holds the rule and all that is made.
 use Rattle.std.proofs.Common.{◌≡◌, ℕ, List, [], ◌∷◌, map, refl, ap, sym, ◌∙◌, subst, inl, inr}
-use Rattle.equation_file.specs.declared.equation.Equation.{Equation}
+use Rattle.equations.specs.declared.equation.Equation.{Equation}
 use Rattle.ordered_lists.specs.Subs.{IsSubMultiset}
 use Rattle.ordered_lists.proofs.Subs.{sub_skip}
 use Rattle.normal_rule.specs.declared.rule.EdgeType.{EdgeType}

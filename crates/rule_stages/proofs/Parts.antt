@@ -2,7 +2,7 @@
 use Rattle.std.proofs.Common.{◌≡◌, ℕ, List, [], ◌∷◌, refl, sym, ap, ◌∙◌, subst, inl, inr, ◌⊎◌}
 use Rattle.degree_numbers.specs.declared.types.Types.{Types}
 use Rattle.degree_numbers.specs.Multi.{plus_of}
-use Rattle.equation_file.specs.declared.equation.Equation.{Equation}
+use Rattle.equations.specs.declared.equation.Equation.{Equation}
 use Rattle.ordered_lists.specs.Subs.{IsSubMultiset}
 use Rattle.ordered_lists.proofs.Subs.{sub_skip, sub_refl}
 use Rattle.plain_trees.specs.Plain.{Plain, bare, graft, root_of}

@@ -3,7 +3,7 @@
 --   IsQuotientConforming eq rule c == its quotient strongly conforms to the rule, in canonical form
 --   IsClosedUnderCutting eq rule t == so it is for each cutting of t all of whose components are unplanted and of negative degree
 use Rattle.std.specs.Prelude.{◌≡◌, true, false}
-use Rattle.equation_file.specs.declared.equation.Equation.{Equation}
+use Rattle.equations.specs.declared.equation.Equation.{Equation}
 use Rattle.ordered_lists.specs.Members.{IsIn}
 use Rattle.plain_trees.specs.Plain.{Plain}
 use Rattle.plain_trees.specs.Canon.{canon}

@@ -17,11 +17,12 @@ use Rattle.std.specs.List.Sorted.{IsStrictlySortedBy}
 use Rattle.std.specs.Ordering.{nat_cmp, on, then_cmp}
 use Rattle.std.specs.Cmp.Lexicographic.{slice_cmp}
 use Rattle.std.specs.declared.cmp.Ordering.{Ordering}
+use Rattle.limits.specs.declared.TheConstants.{MOST_NODE_TYPES}
 use Rattle.degree_numbers.specs.declared.types.Types.{Types}
 use Rattle.degree_numbers.specs.declared.types.Kind.TheVariants.{Kernel}
 use Rattle.degree_numbers.specs.Types.{kind_of}
 use Rattle.degree_numbers.specs.Multi.{plus_of}
-use Rattle.equation_file.specs.declared.equation.Equation.{Equation}
+use Rattle.equations.specs.declared.equation.Equation.{Equation}
 use Rattle.ordered_lists.specs.Members.{IsIn}
 use Rattle.ordered_lists.specs.Subs.{IsSubMultiset}
 use Rattle.plain_trees.specs.Plain.{Plain, bare, graft, root_of}
@@ -84,5 +85,5 @@ node_type_of_order = then_cmp (on (λ x. x.0) nat_cmp) (then_cmp (on (λ x. leng
 pub record HasTooLargeNext (eq : Equation) (rule : Rule) : Type 0 where
   pub node_types : List NodeTypeOf
   pub ascending : IsStrictlySortedBy node_type_of_order node_types
-  pub many : 2000 < length node_types
+  pub many : MOST_NODE_TYPES < length node_types
   pub next : (x : NodeTypeOf) → IsIn x node_types → IsInNext eq rule x.0 x.1

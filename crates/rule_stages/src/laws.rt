@@ -1,7 +1,7 @@
 // Laws of the stages of a completion.
 ghost use Rattle.std.specs.Prelude.{ℕ, ℤ, List, ◌⊎◌};
-ghost use Rattle.equation_file.specs.declared.equation.Equation.{Equation};
-ghost use Rattle.equation_file.specs.Accepted.{IsEquation};
+ghost use Rattle.equations.specs.declared.equation.Equation.{Equation};
+ghost use Rattle.equations.specs.Accepted.{IsEquation};
 ghost use Rattle.plain_trees.specs.Plain.{Plain};
 ghost use Rattle.plain_trees.specs.Degree.{HasTypes};
 ghost use Rattle.normal_rule.specs.declared.rule.Rule.{Rule};

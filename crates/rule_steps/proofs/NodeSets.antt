@@ -62,6 +62,12 @@ set_one P n here alone = record {
   only = λ m h. elim h [ inl e ↦ subst (λ (k : NodeType). P (labels k)) e here | inr none ↦ absurd none ];
 }
 
+-- at most one node type
+pub set_short : (ns : List NodeType) → length ns < 2 → IsSetOf (λ es. IsIn es (map labels ns)) ns
+set_short [] h = set_none (λ es. IsIn es []) (λ es none. none)
+set_short (n ∷ []) h = set_one (λ es. IsIn es (labels n ∷ [])) n (inl refl) (λ es there. elim there [ inl e ↦ e | inr none ↦ absurd none ])
+set_short (n ∷ m ∷ ns) h = absurd (omega (arith, h))
+
 -- the same set by another property
 pub set_by : (P Q : List EdgeLabel → Type 0) (ns : List NodeType) → ((es : List EdgeLabel) → P es → Q es) → ((es : List EdgeLabel) → Q es → P es) → IsSetOf P ns → IsSetOf Q ns
 set_by P Q ns to back h = record {

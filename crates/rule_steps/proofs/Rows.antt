@@ -6,11 +6,11 @@ use Rattle.std.proofs.lemmas.Bool.Decides.{nat_tests}
 use Rattle.std.proofs.lemmas.Simd.{map-map}
 use Rattle.degree_numbers.specs.declared.types.TypeId.{TypeId}
 use Rattle.degree_numbers.specs.Types.{noise_count, kernels}
-use Rattle.equation_file.specs.declared.equation.Equation.{Equation}
-use Rattle.equation_file.specs.declared.equation.Unknown.{Unknown}
-use Rattle.equation_file.specs.Accepted.{IsEquation}
-use Rattle.equation_file.specs.EdgeTypes.{edge_type_order}
-use Rattle.equation_file.proofs.EdgeTypeLaws.{edge_type_order_total}
+use Rattle.equations.specs.declared.equation.Equation.{Equation}
+use Rattle.equations.specs.declared.equation.Unknown.{Unknown}
+use Rattle.equations.specs.Accepted.{IsEquation}
+use Rattle.equations.specs.EdgeTypes.{edge_type_order}
+use Rattle.equations.proofs.EdgeTypeLaws.{edge_type_order_total}
 use Rattle.ordered_lists.specs.Members.{IsIn}
 use Rattle.ordered_lists.proofs.Members.{all_at}
 use Rattle.ordered_lists.proofs.Counts.{sorted-cons, first_is_least}

@@ -6,8 +6,8 @@ use Rattle.std.specs.Ordering.{ordering_then}
 use Rattle.std.specs.Prelude.{IsSorted}
 use Rattle.std.proofs.lemmas.Cmp.{tied_itself, nat_cmp_total}
 use Rattle.std.proofs.lemmas.List.{length-map}
-use Rattle.equation_file.specs.EdgeTypes.{EdgeType as Pair, edge_type_order}
-use Rattle.equation_file.proofs.EdgeTypeLaws.{edge_type_order_total}
+use Rattle.equations.specs.EdgeTypes.{EdgeType as Pair, edge_type_order}
+use Rattle.equations.proofs.EdgeTypeLaws.{edge_type_order_total}
 use Rattle.ordered_lists.specs.Subs.{IsSubMultiset}
 use Rattle.ordered_lists.proofs.Counts.{sorted-cons, first_is_least}
 use Rattle.ordered_lists.proofs.Unique.{sorted-rest}

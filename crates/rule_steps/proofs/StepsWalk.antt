@@ -4,8 +4,8 @@ use Rattle.std.proofs.lemmas.List.{take_more, take_all, map-append}
 use Rattle.std.specs.List.{take-map}
 use Rattle.degree_numbers.specs.declared.types.Kind.TheVariants.{Kernel}
 use Rattle.degree_numbers.specs.Types.{kind_of}
-use Rattle.equation_file.specs.declared.equation.Equation.{Equation}
-use Rattle.equation_file.specs.Accepted.{IsEquation}
+use Rattle.equations.specs.declared.equation.Equation.{Equation}
+use Rattle.equations.specs.Accepted.{IsEquation}
 use Rattle.ordered_lists.specs.Members.{IsIn, insert_all}
 use Rattle.ordered_lists.proofs.Members.{in_append_left, in_append_right, from_append, in_map, member_at}
 use Rattle.plain_trees.specs.Plain.{Plain}

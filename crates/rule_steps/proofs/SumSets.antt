@@ -1,11 +1,13 @@
 -- Sets of sums of node types.
-use Rattle.std.proofs.Common.{◌≡◌, ℕ, zero, suc, ◌+◌, ◌<◌, List, [], ◌∷◌, ◌++◌, length, map, take, get_or, refl, sym, ap, ◌∙◌, subst, inl, inr, arith}
+use Rattle.std.proofs.Common.{◌≡◌, ℕ, zero, suc, ◌+◌, ◌<◌, ◌≤◌, List, [], ◌∷◌, ◌++◌, length, map, take, get_or, refl, sym, ap, ◌∙◌, subst, inl, inr, arith}
+use Rattle.std.specs.List.Sorted.{IsStrictlySortedBy}
 use Rattle.std.proofs.lemmas.List.{take_more}
 use Rattle.ordered_lists.specs.Members.{IsIn, insert_all}
 use Rattle.ordered_lists.proofs.Members.{in_append_left, in_append_right, from_append, in_map, from_map}
+use Rattle.normal_rule.specs.declared.rule.EdgeType.{EdgeType}
 use Rattle.normal_rule.specs.declared.rule.NodeType.{NodeType}
 use Rattle.normal_rule.specs.Order.{node_order}
-use Rattle.conforming_trees.specs.Conforming.{EdgeLabel, labels}
+use Rattle.conforming_trees.specs.Conforming.{EdgeLabel, label, labels}
 use Rattle.rule_stages.specs.Stages.{join}
 use Rattle.rule_steps.specs.Sets.{IsSetOf, HasMany, IsSumOf}
 use Rattle.rule_steps.proofs.NodeSets.{AreLabelsIn, set_put, set_none, many_of, many_more, labels_in, in_labels}
@@ -69,3 +71,22 @@ sums_end xs ys keys i h set = rw (all_of xs i h) at set
     all_of [] (suc i) h = refl
     all_of (x ∷ xs) zero h = absurd (omega (arith, h))
     all_of (x ∷ xs) (suc i) h = ap (λ (l : List NodeType). x ∷ l) (all_of xs i (omega (arith, h)))
+
+-- with the empty node type alone they are left as they are
+no_labels : (es : List EdgeType) → length es ≡ 0 → map label es ≡ []
+no_labels [] h = refl
+no_labels (e ∷ es) h = absurd (omega (arith, h))
+
+pub sums_empty : (xs ys : List NodeType) (x d : NodeType) → 1 ≤ length xs → length xs < 2 → x ≡ get_or xs 0 d → length x.edges ≡ 0 → IsStrictlySortedBy node_order ys → IsSetOf (IsSumOf xs ys) ys
+sums_empty [] ys x d some one is none ascending = absurd (omega (arith, some))
+sums_empty (z ∷ []) ys x d some one is none ascending =
+    let empty : labels z ≡ [] = ap labels (sym is) ∙ no_labels x.edges none in
+    record {
+      ascending = ascending;
+      all = λ es s. (s.1, s.3, sym (s.4 ∙ ap (λ (l : List EdgeLabel). join l (labels s.1)) (ap labels (sym (only s.2)) ∙ empty)));
+      only = λ n m. (z, n, inl refl, m, ap (λ (l : List EdgeLabel). join l (labels n)) (sym empty));
+    }
+  where
+    only : {y : NodeType} → IsIn y (z ∷ []) → z ≡ y
+    only k = elim k [ inl e ↦ e | inr other ↦ absurd other ]
+sums_empty (y ∷ z ∷ zs) ys x d some one is none ascending = absurd (omega (arith, one))

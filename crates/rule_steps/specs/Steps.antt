@@ -1,25 +1,21 @@
 -- The step from a rule to its next stage, row by row.
---   trees_of c is == the trees with the numbers is in the pool
+--   trees_of == as in tree_pool
 --   IsMadeOf ty rule k t es == es are additions at all nodes of the tree t together, its root above the kernel k
 --   IsFound eq rule k ts es == es is in the row of kernel k, or made for k of one of the trees ts
 --   IsNextRow eq rule row == the node types of the row are those of its kernel in the next stage, in their order, each once
 --   HasNextRows eq rule of rows == the rows are those of the next stage, of the kernels of the rows `of`
 use Rattle.std.specs.Prelude.{◌≡◌, ℕ, List, ◌⊎◌, map}
 use Rattle.degree_numbers.specs.declared.types.Types.{Types}
-use Rattle.equation_file.specs.declared.equation.Equation.{Equation}
+use Rattle.equations.specs.declared.equation.Equation.{Equation}
 use Rattle.ordered_lists.specs.Members.{IsIn}
 use Rattle.plain_trees.specs.Plain.{Plain}
-use Rattle.tree_pool.specs.Content.{Content, tree_at}
-use Rattle.tree_pool.specs.declared.node.TreeId.{TreeId}
+pub use Rattle.tree_pool.specs.Content.{trees_of}
 use Rattle.normal_rule.specs.declared.rule.Rule.{Rule}
 use Rattle.normal_rule.specs.declared.rule.RuleRow.{RuleRow}
 use Rattle.conforming_trees.specs.Conforming.{EdgeLabel, IsInKernelRow}
 use Rattle.rule_stages.specs.Stages.{IsInNext}
 use Rattle.rule_steps.specs.Sets.{IsSetOf}
 use Rattle.rule_steps.specs.Sums.{all_additions}
-
-abbrev pub trees_of : Content → List TreeId → List Plain
-trees_of c is = map (λ i. tree_at c i.0) is
 
 abbrev pub IsMadeOf : Types → Rule → ℕ → Plain → List EdgeLabel → Type 0
 IsMadeOf ty rule k t es = IsIn es (all_additions ty rule k t)

@@ -1,6 +1,6 @@
 // What can be added at a node.
 ghost use Rattle.std.specs.Prelude.{◌≡◌, ◌≤◌, ◌<◌, ◌^◌, List, map, sum, length, IfOk, IfErr};
-ghost use Rattle.equation_file.specs.Accepted.{IsEquation};
+ghost use Rattle.equations.specs.Accepted.{IsEquation};
 ghost use Rattle.ordered_lists.specs.Members.{IsIn};
 ghost use Rattle.conforming_trees.specs.Conforming.{label, labels, IsRule};
 ghost use Rattle.normal_rule.specs.declared.rule.RuleRefusal.TheVariants.{RuleTooLarge};
@@ -11,7 +11,7 @@ use crate::choices::options;
 use crate::raise::put_bumped;
 use crate::sets::put_few;
 use degree_numbers::{Multi, TypeId};
-use equation_file::Equation;
+use equations::Equation;
 use normal_rule::{EdgeType, NodeType, Rule, RuleRefusal};
 use std::alloc::Global;
 use std::collections::BTreeSet;
@@ -21,6 +21,9 @@ fn set_of(alloc: Global, nodes: Vec<NodeType>) -> Result<Vec<NodeType>, RuleRefu
     ensures set { IfOk result (λ v. IsSetOf (λ es. IsIn es (map labels nodes.items)) v.items) }
     ensures large { IfErr result (λ e. e ≡ RuleTooLarge → HasMany (λ es. IsIn es (map labels nodes.items))) }
 {
+    if nodes.len() < 2 {
+        return Ok(nodes);
+    }
     let mut found = BTreeSet::new(alloc);
     put_few(nodes, &mut found)?;
     Ok(found.into_iter().collect(alloc)?)

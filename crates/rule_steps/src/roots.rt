@@ -1,6 +1,6 @@
 // The roots of trees of a pool: their node types, and what can be added at them.
 ghost use Rattle.std.specs.Prelude.{◌≡◌, ◌<◌, ◌^◌, length, map, IfOk, IfErr};
-ghost use Rattle.equation_file.specs.Accepted.{IsEquation};
+ghost use Rattle.equations.specs.Accepted.{IsEquation};
 ghost use Rattle.tree_pool.specs.Content.{tree_at};
 ghost use Rattle.normal_rule.specs.declared.rule.RuleRefusal.TheVariants.{RuleTooLarge};
 ghost use Rattle.conforming_trees.specs.Conforming.{labels, node_type_of, IsRule};
@@ -9,7 +9,7 @@ ghost use Rattle.rule_steps.specs.Sets.{IsSetOf, HasMany, IsAdditionAt, IsSmallR
 use crate::additions::additions_at;
 use crate::edges::joined;
 use degree_numbers::TypeId;
-use equation_file::Equation;
+use equations::Equation;
 use normal_rule::{EdgeType, NodeType, Rule, RuleRefusal};
 use std::alloc::{AllocError, Global};
 use tree_pool::{Pool, TreeId};

@@ -3,7 +3,7 @@ ghost use Rattle.std.specs.Prelude.{◌≡◌, ◌<◌, ◌≤◌, ◌^◌, List
 ghost use Rattle.std.specs.List.{All};
 ghost use Rattle.degree_numbers.specs.declared.types.Kind.TheVariants.{Kernel};
 ghost use Rattle.degree_numbers.specs.Types.{kind_of};
-ghost use Rattle.equation_file.specs.Accepted.{IsEquation};
+ghost use Rattle.equations.specs.Accepted.{IsEquation};
 ghost use Rattle.ordered_lists.specs.Members.{IsIn};
 ghost use Rattle.tree_pool.specs.Content.{tree_at};
 ghost use Rattle.normal_rule.specs.Rule.{nodes_in, node_count};
@@ -17,9 +17,9 @@ ghost use Rattle.rule_steps.specs.Steps.{trees_of, IsMadeOf, HasNextRows};
 
 use crate::roots::additions_at_root;
 use crate::sets::{MOST_NODE_TYPES, put_few};
-use crate::sums::{additions_above, sums};
+use crate::sums::{additions_above, sums_with};
 use degree_numbers::TypeId;
-use equation_file::Equation;
+use equations::Equation;
 use normal_rule::{NodeType, Rule, RuleRefusal, RuleRow};
 use sqlite_items::Items;
 use std::alloc::{AllocError, Global};
@@ -51,7 +51,7 @@ fn made_of(
         return Ok(at);
     }
     let above = additions_above(alloc, eq, rule, pool, id)?;
-    sums(alloc, at.as_slice(), above.as_slice())
+    sums_with(alloc, at.as_slice(), above)
 }
 
 /// Copies of node types. Fails only for want of memory.

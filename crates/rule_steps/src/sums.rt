@@ -1,8 +1,10 @@
 // What can be added at the nodes of a tree together.
 ghost use Rattle.std.specs.Prelude.{◌≡◌, ◌<◌, ◌^◌, length, map, IfOk, IfErr};
-ghost use Rattle.equation_file.specs.Accepted.{IsEquation};
+ghost use Rattle.std.specs.List.Sorted.{IsStrictlySortedBy};
+ghost use Rattle.equations.specs.Accepted.{IsEquation};
 ghost use Rattle.ordered_lists.specs.Members.{IsIn};
 ghost use Rattle.tree_pool.specs.Content.{tree_at};
+ghost use Rattle.normal_rule.specs.Order.{node_order};
 ghost use Rattle.normal_rule.specs.declared.rule.RuleRefusal.TheVariants.{RuleTooLarge};
 ghost use Rattle.conforming_trees.specs.Conforming.{labels, IsRule, ConformsAbove};
 ghost use Rattle.rule_stages.specs.Stages.{join};
@@ -12,7 +14,7 @@ ghost use Rattle.rule_steps.specs.Sums.{additions_above};
 use crate::edges::joined;
 use crate::roots::additions_at_root;
 use crate::sets::{empty_alone, put_few};
-use equation_file::Equation;
+use equations::Equation;
 use normal_rule::{NodeType, Rule, RuleRefusal};
 use std::alloc::{AllocError, Global};
 use std::collections::BTreeSet;
@@ -45,6 +47,22 @@ pub(crate) fn sums(
     Ok(all.into_iter().collect(alloc)?)
 }
 
+/// The same where the others are in their order, each once. They are given back as they are where the first are the empty node type alone.
+pub(crate) fn sums_with(
+    alloc: Global,
+    xs: &[NodeType],
+    ys: Vec<NodeType>,
+) -> Result<Vec<NodeType>, RuleRefusal>
+    requires { IsStrictlySortedBy node_order ys.items }
+    ensures set { IfOk result (λ v. IsSetOf (IsSumOf xs.now ys.items) v.items) }
+    ensures large { IfErr result (λ e. e ≡ RuleTooLarge → HasMany (IsSumOf xs.now ys.items)) }
+{
+    match xs {
+        [x] if x.edges.is_empty() => Ok(ys),
+        _ => sums(alloc, xs, ys.as_slice()),
+    }
+}
+
 /// All additions above the root of a tree of the pool, together. Fails with `RuleTooLarge` only where that are more than 2,000, and for want of memory.
 pub(crate) fn additions_above(
     alloc: Global,
@@ -70,8 +88,8 @@ pub(crate) fn additions_above(
         let e = edges[i];
         let at = additions_at_root(alloc, eq, rule, pool, e.kind, e.child)?;
         let above = additions_above(alloc, eq, rule, pool, e.child)?;
-        let inner = sums(alloc, above.as_slice(), all.as_slice())?;
-        all = sums(alloc, at.as_slice(), inner.as_slice())?;
+        let inner = sums_with(alloc, above.as_slice(), all)?;
+        all = sums_with(alloc, at.as_slice(), inner)?;
     }
     Ok(all)
 }

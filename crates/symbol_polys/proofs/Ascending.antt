@@ -1,5 +1,6 @@
 -- Lists whose neighbours ascend are in order.
 use Rattle.std.proofs.Common.{◌≡◌, ℕ, zero, suc, ◌+◌, ◌-◌, ◌<◌, ◌≤◌, Bool, true, false, List, [], ◌∷◌, length, map, drop, get_or, refl, ap, sym, ◌∙◌, arith, Ordering, Less, Equal, Greater}
+use Rattle.std.proofs.lemmas.Bool.{and_parts, not-true}
 use Rattle.std.proofs.lemmas.List.{drop_more}
 use Rattle.std.specs.Prelude.{◌&&◌, not}
 use Rattle.std.specs.Cmp.{IsTotalOrder}
@@ -7,15 +8,6 @@ use Rattle.std.specs.List.Sorted.{IsSorted, IsStrictlySortedBy}
 use Rattle.std.specs.Ordering.{is_lt}
 use Rattle.ordered_lists.proofs.Insertion.{below_all}
 use Rattle.symbol_polys.specs.Neighbours.{neighbours}
-
-both : (a b : Bool) → (a && b) ≡ true → (a ≡ true) × (b ≡ true)
-both true true h = (refl, refl)
-both true false h = absurd cc
-both false b h = absurd cc
-
-not_true : (a : Bool) → not a ≡ true → a ≡ false
-not_true true h = absurd cc
-not_true false h = refl
 
 less_is : (a : Ordering) → is_lt a ≡ true → a ≡ Less
 less_is Less h = refl
@@ -68,8 +60,8 @@ module _ {X : Type 0} (R : X → X → Ordering) where
   sorted_by [] h = λ k d low high. absurd (omega arith)
   sorted_by (x ∷ []) h = λ k d low high. absurd (omega arith)
   sorted_by (x ∷ y ∷ xs) h =
-      let t = both (ascends x y) (neighbours ascends (y ∷ xs)) h in
-      sorted_cons x y xs (not_true (is_lt (R y x)) t.0) (sorted_by (y ∷ xs) t.1)
+      let t = and_parts (ascends x y) (neighbours ascends (y ∷ xs)) h in
+      sorted_cons x y xs (not-true (is_lt (R y x)) t.0) (sorted_by (y ∷ xs) t.1)
 
   tail_sorted : (x : X) (xs : List X) → IsSorted R (x ∷ xs) → IsSorted R xs
   tail_sorted x xs s = λ k d low high. let one : suc k + 1 ≡ suc (k + 1) = omega arith in rw one at (s (suc k) d (omega arith) (omega arith))
@@ -90,7 +82,7 @@ module _ {X : Type 0} (R : X → X → Ordering) where
   strict_by total [] h = tt
   strict_by total (x ∷ []) h = (tt, tt)
   strict_by total (x ∷ y ∷ xs) h =
-      let t = both (precedes x y) (neighbours precedes (y ∷ xs)) h in
+      let t = and_parts (precedes x y) (neighbours precedes (y ∷ xs)) h in
       let rest = strict_by total (y ∷ xs) t.1 in
       let less = less_is (R x y) t.0 in
       ((less, below_all R total x y xs less rest.0), rest)

@@ -1,8 +1,9 @@
 -- The multiindex of a variable is read back.
-use Rattle.std.proofs.Common.{◌≡◌, ℕ, zero, suc, ◌-◌, ◌<◌, ◌≤◌, ◌^◌, min, Bool, true, false, List, [], ◌∷◌, ◌++◌, length, take, drop, decimal, Some, None, refl, ap, sym, ◌∙◌, arith, append_assoc}
+use Rattle.std.proofs.Common.{◌≡◌, ℕ, zero, suc, ◌-◌, ◌<◌, ◌≤◌, ◌^◌, min, true, List, [], ◌∷◌, ◌++◌, length, take, drop, decimal, Some, None, refl, ap, sym, ◌∙◌, arith, append_assoc}
+use Rattle.std.proofs.lemmas.Bool.{and_parts}
 use Rattle.std.proofs.lemmas.Bool.Decides.{nat_tests}
 use Rattle.std.proofs.lemmas.List.{take-append-drop, length-drop, length-take}
-use Rattle.std.specs.Prelude.{◌==◌, ◌&&◌}
+use Rattle.std.specs.Prelude.{◌==◌}
 use Rattle.std.specs.List.{AllByRecursion}
 use Rattle.text_parts.specs.Reading.{number_at}
 use Rattle.text_parts.proofs.Back.{number_back, Stops}
@@ -49,14 +50,9 @@ zeros : (xs : List ℕ) → AllByRecursion (λ x. x ≡ 0) xs → xs ≡ padding
 zeros [] h = refl
 zeros (x ∷ xs) h = let w : x ≡ 0 = h.0 in ap (λ (y : ℕ). y ∷ xs) w ∙ ap (λ (m : List ℕ). 0 ∷ m) (zeros xs h.1)
 
-both : (a b : Bool) → (a && b) ≡ true → (a ≡ true) × (b ≡ true)
-both true true h = (refl, refl)
-both true false h = absurd cc
-both false b h = absurd cc
-
 pub all_zero : (xs : List ℕ) → is_zero xs ≡ true → AllByRecursion (λ x. x ≡ 0) xs
 all_zero [] h = tt
-all_zero (x ∷ xs) h = let t = both (x == 0) (is_zero xs) h in (grind (arith, nat_tests), all_zero xs t.1)
+all_zero (x ∷ xs) h = let t = and_parts (x == 0) (is_zero xs) h in (grind (arith, nat_tests), all_zero xs t.1)
 
 pub is_all_zero : (xs : List ℕ) → AllByRecursion (λ x. x ≡ 0) xs → is_zero xs ≡ true
 is_all_zero [] h = refl

@@ -1,12 +1,12 @@
 -- No cut goes through the text of a symbol or of a power, and how it begins.
-use Rattle.std.proofs.Common.{◌≡◌, ℕ, zero, suc, ◌<◌, ◌^◌, Bool, true, false, List, [], ◌∷◌, ◌++◌, length, take, decimal, refl, ap, sym, subst, ◌∙◌, arith, rules, tests, eqb-true}
+use Rattle.std.proofs.Common.{◌≡◌, ℕ, zero, suc, ◌<◌, ◌^◌, Bool, true, false, List, [], ◌∷◌, ◌++◌, length, take, decimal, refl, ap, sym, subst, ◌∙◌, arith, eqb-true}
 use Rattle.std.specs.Prelude.{◌==◌, ◌||◌, if◌then◌else◌}
 use Rattle.std.specs.Char.{is_ascii_digit, is_ascii_alphabetic}
-use Rattle.std.specs.Int.{IsInRange}
 use Rattle.std.specs.List.{AllByRecursion}
 use Rattle.std.specs.Str.Parse.{AllDigits}
 use Rattle.std.proofs.lemmas.Fmt.{decimal_is_IsNumeral}
 use Rattle.std.proofs.lemmas.Str.Parse.{digit_from_value}
+use Rattle.text_parts.proofs.Back.{digit_test}
 use Rattle.degree_numbers.specs.Name.{is_name, is_name_byte}
 use Rattle.degree_numbers.specs.EdgeText.{further_text, listed_text, multi_text, edge_type_text}
 use Rattle.degree_numbers.specs.Multi.{is_zero}
@@ -66,9 +66,6 @@ or_right false b h = h
 or_left : (a b : Bool) → a ≡ true → (a || b) ≡ true
 or_left true b h = refl
 or_left false b h = absurd cc
-
-digit_test : (c : ℕ) → IsInRange 48 57 c → is_ascii_digit c ≡ true
-digit_test c h = search (rules, tests)
 
 pub digit_name : (c : ℕ) → is_ascii_digit c ≡ true → is_name_byte c ≡ true
 digit_name c h = or_right (is_ascii_alphabetic c) _ (or_left (is_ascii_digit c) _ h)

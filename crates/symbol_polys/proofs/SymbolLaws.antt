@@ -1,5 +1,5 @@
 -- The orders of symbols and of monomials are total, and equal in them is equal.
-use Rattle.std.proofs.Common.{◌≡◌, ℕ, zero, suc, ◌<◌, ◌≤◌, List, [], ◌∷◌, length, get_or, map, arith, refl, sym, ap, ◌∙◌, Ordering, Less, Equal, Greater, nat_cmp}
+use Rattle.std.proofs.Common.{◌≡◌, ℕ, zero, suc, ◌<◌, ◌≤◌, List, [], ◌∷◌, length, get_or, map, drop, arith, refl, sym, ap, ◌∙◌, Ordering, Less, Equal, Greater, nat_cmp}
 use Rattle.std.specs.Ordering.{ordering_reverse}
 use Rattle.std.specs.Cmp.{IsTotalOrder}
 use Rattle.std.specs.List.{AllByRecursion}
@@ -60,8 +60,16 @@ symbol_order_self s = own_equal (symbol_order s s) (symbol_order_total.antisymm 
 pub monomial_order_self : (m : List PlainSymbol) → monomial_order m m ≡ Equal
 monomial_order_self m = own_equal (monomial_order m m) (monomial_order_total.antisymm m m)
 
--- the trees at each place of a monomial are small
+-- the trees at each place of a monomial are within the bounds
+pub bounded_at : (m : List Symbol) (i : ℕ) (s : Symbol) → i < length m → s ≡ get_or m i s → AllByRecursion HasBoundedTree (map symbol_of m) → HasBoundedTree (symbol_of s)
+bounded_at [] i s h e a = absurd (omega arith)
+bounded_at (t ∷ m) zero s h e a = rw e a.0
+bounded_at (t ∷ m) (suc i) s h e a = bounded_at m i s (omega arith) e a.1
+
 pub small_at : (m : List Symbol) (i : ℕ) (s : Symbol) → i < length m → s ≡ get_or m i s → AllByRecursion HasBoundedTree (map symbol_of m) → edge_count_of (tree_in (symbol_of s)) ≤ 24
-small_at [] i s h e a = absurd (omega arith)
-small_at (t ∷ m) zero s h e a = rw e a.0.1.edges
-small_at (t ∷ m) (suc i) s h e a = small_at m i s (omega arith) e a.1
+small_at m i s h e a = (bounded_at m i s h e a).1.edges
+
+pub bounded_behind : (m : List Symbol) (i : ℕ) → AllByRecursion HasBoundedTree (map symbol_of m) → AllByRecursion HasBoundedTree (map symbol_of (drop i m))
+bounded_behind m zero a = a
+bounded_behind [] (suc i) a = tt
+bounded_behind (t ∷ m) (suc i) a = bounded_behind m i a.1

@@ -1,8 +1,9 @@
 // Polynomials, and those that the calls make.
 ghost use Rattle.std.specs.Prelude.{◌≡◌, ◌<◌, ◌≤◌, ◌*◌, ◌*ℤ◌, pos, [], ◌∷◌, List, map, IfOk, IfErr, IsOkUnless, unsigned_abs};
+ghost use Rattle.std.specs.List.{AllByRecursion};
 ghost use Rattle.exact_sums.specs.Saturating.{overflow};
 ghost use Rattle.symbol_polys.specs.Symbols.{PlainSymbol, HasBoundedTree, IsMonomial};
-ghost use Rattle.symbol_polys.specs.Polynomials.{coefficient_of, size_of, times, times_all, IsRefused};
+ghost use Rattle.symbol_polys.specs.Polynomials.{monomials, coefficient_of, size_of, times, times_all, IsRefused};
 ghost use Rattle.symbol_polys.specs.View.{symbol_of, term_of, terms_of, IsPoly};
 
 use crate::error::PolyError;
@@ -90,7 +91,8 @@ pub(crate) fn multiple(by: i128, z: i128) -> i128
 }
 
 fn times(alloc: Global, by: i128, term: &Term) -> Result<Term, PolyError>
-    requires { unsigned_abs by * unsigned_abs term.now.coefficient < overflow }
+    requires trees { AllByRecursion HasBoundedTree (map symbol_of term.now.symbols) }
+    requires fits { unsigned_abs by * unsigned_abs term.now.coefficient < overflow }
     ensures value { IfOk result (λ t. term_of t ≡ times by (term_of term.now)) }
     ensures memory { IsOkUnless result PolyError.Memory }
 {
@@ -102,7 +104,8 @@ fn times(alloc: Global, by: i128, term: &Term) -> Result<Term, PolyError>
 
 // Each term times a number.
 fn times_all(alloc: Global, by: i128, terms: &[Term]) -> Result<Items<Term>, PolyError>
-    requires { unsigned_abs by * size_of (terms_of terms.now) < overflow }
+    requires each { AllByRecursion IsMonomial (monomials (terms_of terms.now)) }
+    requires fits { unsigned_abs by * size_of (terms_of terms.now) < overflow }
     ensures value { IfOk result (λ ts. terms_of ts ≡ times_all by (terms_of terms.now)) }
     ensures memory { IsOkUnless result PolyError.Memory }
 {

@@ -8,6 +8,7 @@ ghost use Rattle.symbol_polys.specs.Pieces.{unmarked};
 ghost use Rattle.numerals.specs.Numerals.{is_numeral};
 ghost use Rattle.symbol_polys.specs.TermReading.{split_power, IsPowerOf, expanded};
 ghost use Rattle.symbol_polys.specs.Text.{AreParameters, Power, power_text};
+ghost use Rattle.symbol_polys.specs.Symbols.{HasBoundedTree};
 ghost use Rattle.symbol_polys.specs.View.{symbol_of};
 
 use crate::error::PolyError;
@@ -56,6 +57,7 @@ fn put_copies(
     s: &Symbol,
     count: usize,
 ) -> Result<(), PolyError>
+    requires { HasBoundedTree (symbol_of s.now) }
     ensures copies { OnOk result (symbols.new ≡ symbols.old ++ replicate count s.now) }
     ensures memory { IsOkUnless result PolyError.Memory }
 {

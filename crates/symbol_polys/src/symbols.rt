@@ -3,7 +3,8 @@ ghost use Rattle.std.specs.Prelude.{◌≡◌, ◌≤◌, ◌↔◌, IfOk, IsOkU
 ghost use Rattle.std.specs.Cmp.{IsTotalOrder};
 ghost use Rattle.std.specs.List.{AllByRecursion};
 ghost use Rattle.std.specs.declared.cmp.Ordering.TheVariants.{Equal};
-ghost use Rattle.plain_trees.specs.Plain.{edge_count_of};
+ghost use Rattle.plain_trees.specs.Plain.{IsSmall, edge_count_of};
+ghost use Rattle.plain_trees.specs.View.{plain};
 ghost use Rattle.symbol_polys.specs.Symbols.{PlainSymbol, rank, tree_in, symbol_order, monomial_order, HasBoundedTree};
 ghost use Rattle.symbol_polys.specs.View.{symbol_of};
 
@@ -73,6 +74,7 @@ pub fn monomial_order(a: &[Symbol], b: &[Symbol]) -> Ordering
 }
 
 fn copied(alloc: Global, t: &Tree) -> Result<Tree, PolyError>
+    requires { IsSmall (plain t.now) }
     ensures copy { IfOk result (λ u. u ≡ t.now) }
     ensures memory { IsOkUnless result PolyError.Memory }
 {
@@ -82,8 +84,9 @@ fn copied(alloc: Global, t: &Tree) -> Result<Tree, PolyError>
     }
 }
 
-/// A copy of a symbol. Fails only for want of memory.
+/// A copy of a symbol, whose tree is within the bounds. Fails only for want of memory.
 pub fn copy_symbol(alloc: Global, s: &Symbol) -> Result<Symbol, PolyError>
+    requires { HasBoundedTree (symbol_of s.now) }
     ensures copy { IfOk result (λ t. t ≡ s.now) }
     ensures memory { IsOkUnless result PolyError.Memory }
 {
@@ -96,8 +99,9 @@ pub fn copy_symbol(alloc: Global, s: &Symbol) -> Result<Symbol, PolyError>
     })
 }
 
-/// A copy of a monomial. Fails only for want of memory.
+/// A copy of a monomial, whose trees are within the bounds. Fails only for want of memory.
 pub fn copy_symbols(alloc: Global, symbols: &[Symbol]) -> Result<Items<Symbol>, PolyError>
+    requires { AllByRecursion HasBoundedTree (map symbol_of symbols.now) }
     ensures copy { IfOk result (λ copy. copy ≡ symbols.now) }
     ensures memory { IsOkUnless result PolyError.Memory }
 {

@@ -4,7 +4,7 @@ ghost use Rattle.std.specs.List.{AllByRecursion, prefix_len};
 ghost use Rattle.std.specs.Ordering.{is_eq};
 ghost use Rattle.degree_numbers.specs.Types.{AreTypes, name_of};
 ghost use Rattle.plain_trees.specs.Degree.{HasTypes};
-ghost use Rattle.plain_trees.specs.Plain.{edge_count_of};
+ghost use Rattle.plain_trees.specs.Plain.{IsSmall, edge_count_of};
 ghost use Rattle.plain_trees.specs.Text.{joined, tree_text};
 ghost use Rattle.plain_trees.specs.View.{plain};
 ghost use Rattle.symbol_polys.specs.Symbols.{tree_in, symbol_order, HasBoundedTree};
@@ -44,6 +44,7 @@ fn put_tree(
 ) -> Result<(), AllocError>
     requires types { AreTypes types.now }
     requires tree { HasTypes types.now (plain t.now) }
+    requires small { IsSmall (plain t.now) }
     ensures { OnOk result (out.new.items ≡ out.old.items ++ mark ∷ tree_text types.now (plain t.now)) }
 {
     let Ok(text) = print_tree(alloc, types, t) else {
@@ -61,6 +62,7 @@ fn put_symbol(
 ) -> Result<(), AllocError>
     requires types { AreTypes names.now.types.now }
     requires over { IsOver names.now.types.now names.now.parameters.now (symbol_of s.now) }
+    requires tree { HasBoundedTree (symbol_of s.now) }
     ensures { OnOk result (out.new.items ≡ out.old.items ++ symbol_text names.now.types.now names.now.parameters.now (symbol_of s.now)) }
 {
     match s {
@@ -82,6 +84,7 @@ fn put_power(
 ) -> Result<(), AllocError>
     requires types { AreTypes names.now.types.now }
     requires over { IsOver names.now.types.now names.now.parameters.now (symbol_of s.now) }
+    requires tree { HasBoundedTree (symbol_of s.now) }
     ensures { OnOk result (out.new.items ≡ out.old.items ++ power_text names.now.types.now names.now.parameters.now record { symbol = symbol_of s.now; exponent = exponent }) }
 {
     put_symbol(out, alloc, names, s)?;

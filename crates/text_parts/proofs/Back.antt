@@ -29,7 +29,7 @@ stops_none : (rest : List ℕ) → Stops rest → NoSpace rest
 stops_none [] h = tt
 stops_none (c ∷ cs) h = h.1
 
-digit_test : (c : ℕ) → IsInRange 48 57 c → is_ascii_digit c ≡ true
+pub digit_test : (c : ℕ) → IsInRange 48 57 c → is_ascii_digit c ≡ true
 digit_test c h = search (rules, tests)
 
 digit_no_space : (c : ℕ) → IsInRange 48 57 c → (c == 32) ≡ false

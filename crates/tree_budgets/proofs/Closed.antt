@@ -6,7 +6,7 @@ use Rattle.degree_numbers.specs.declared.Degree.{Degree}
 use Rattle.degree_numbers.specs.Degree.{degree_plus}
 use Rattle.degree_numbers.specs.Types.{type_degree, kind_of}
 use Rattle.degree_numbers.proofs.Orders.{degree_is}
-use Rattle.equation_file.specs.declared.Equation.{Equation}
+use Rattle.equations.specs.declared.Equation.{Equation}
 use Rattle.ordered_lists.specs.Members.{IsIn}
 use Rattle.ordered_lists.proofs.Members.{all_at, from_map, in_append_right}
 use Rattle.plain_trees.specs.Degree.{edge_degree_of, derivative_degree_of}

@@ -3,7 +3,6 @@ pub mod Equal
 pub mod Extensions
 pub mod FrontLaws
 pub mod Loops
-pub mod NormalRules
 pub mod Plans
 pub mod Regular
 pub mod Reserves

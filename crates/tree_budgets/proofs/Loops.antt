@@ -1,8 +1,8 @@
 -- What a loop over a list keeps of the members that it has passed.
-use Rattle.std.proofs.Common.{◌≡◌, ℕ, zero, suc, ◌+◌, ◌<◌, ◌≤◌, List, [], ◌∷◌, length, take, get_or, refl, sym, subst, inl, inr, ◌∙◌, arith}
+use Rattle.std.proofs.Common.{◌≡◌, ℕ, zero, suc, ◌+◌, ◌<◌, ◌≤◌, List, [], ◌∷◌, length, take, get_or, sym, subst, inl, inr, ◌∙◌, arith}
 use Rattle.std.specs.List.{All}
 use Rattle.std.proofs.lemmas.List.{take_all}
-use Rattle.std.proofs.lemmas.List.Elements.{All-cons, All-more, All-nil}
+use Rattle.std.proofs.lemmas.List.Elements.{All-more}
 use Rattle.ordered_lists.specs.Members.{IsIn}
 use Rattle.normal_rule.specs.declared.EdgeType.{EdgeType}
 
@@ -22,11 +22,6 @@ read_member {X} xs ys i x d lt is same = subst (IsIn x) same (member xs i lt is)
     member [] j l e = absurd (omega (arith, l))
     member (z ∷ zs) zero l e = inl (sym e)
     member (z ∷ zs) (suc j) l e = inr (member zs j (omega (arith, l)) e)
-
--- what holds of each member
-pub all_from_members : {X : Type 0} (P : X → Type 0) (xs : List X) → ((x : X) → IsIn x xs → P x) → All P xs
-all_from_members P [] h = All-nil P
-all_from_members P (x ∷ xs) h = All-cons P x xs (h x (inl refl)) (all_from_members P xs (λ y m. h y (inr m)))
 
 abbrev pub no_edge : EdgeType
 no_edge = record { kind = record { 0 = 0 }; p = record { entries = [] } }

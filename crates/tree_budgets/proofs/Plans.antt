@@ -3,7 +3,7 @@ use Rattle.std.proofs.Common.{◌≡◌, ℕ, zero, suc, ◌+◌, ◌<◌, lengt
 use Rattle.std.specs.Prelude.{slice_get}
 use Rattle.std.proofs.lemmas.List.{take_more}
 use Rattle.degree_numbers.specs.declared.Degree.{Degree}
-use Rattle.equation_file.specs.declared.Equation.{Equation}
+use Rattle.equations.specs.declared.Equation.{Equation}
 use Rattle.normal_rule.specs.declared.NodeType.{NodeType}
 use Rattle.normal_rule.specs.declared.RuleRow.{RuleRow}
 use Rattle.conforming_trees.specs.Conforming.{labels}

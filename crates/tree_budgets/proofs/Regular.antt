@@ -18,10 +18,10 @@ use Rattle.degree_numbers.specs.Degree.{IsWithin, degree_plus, degree_order, deg
 use Rattle.degree_numbers.specs.Types.{type_degree}
 use Rattle.degree_numbers.proofs.Orders.{degree_is, degree_order_total}
 use Rattle.degree_numbers.proofs.TypeBounds.{type_a_within, type_b_within, type_count_most}
-use Rattle.equation_file.specs.declared.Equation.{Equation}
-use Rattle.equation_file.specs.Accepted.{IsEquation}
+use Rattle.equations.specs.declared.Equation.{Equation}
+use Rattle.equations.specs.Accepted.{IsEquation}
 use Rattle.ordered_lists.specs.Members.{IsIn}
-use Rattle.ordered_lists.proofs.Members.{all_at}
+use Rattle.ordered_lists.proofs.Members.{all_at, all_from_members}
 use Rattle.normal_rule.specs.declared.EdgeType.{EdgeType}
 use Rattle.normal_rule.specs.declared.NodeType.{NodeType}
 use Rattle.normal_rule.specs.declared.RuleRow.{RuleRow}
@@ -35,7 +35,6 @@ use Rattle.conforming_trees.proofs.Degrees.{by_parts, from_parts, not_above_tran
 use Rattle.conforming_trees.proofs.Kernels.{row_kind}
 use Rattle.tree_budgets.specs.Bounds.{IsBounded, AreTypeBounds, IsTypeTable, IsLowAt, IsLowRow, IsEnough, AreEnough, IsEnoughRow, HasBounds, regular_low, slack, IsSlackMost, regular_most}
 use Rattle.tree_budgets.proofs.Closed.{low_rows, enough_rows}
-use Rattle.tree_budgets.proofs.Loops.{all_from_members}
 use Rattle.tree_budgets.proofs.TypeLists.{known_kind}
 
 -- a list with a value for each number

@@ -6,7 +6,7 @@ use Rattle.degree_numbers.specs.declared.Degree.{Degree}
 use Rattle.degree_numbers.specs.declared.Types.{Types}
 use Rattle.degree_numbers.specs.Degree.{degree_zero}
 use Rattle.degree_numbers.specs.Types.{AreTypes}
-use Rattle.equation_file.specs.declared.Equation.{Equation}
+use Rattle.equations.specs.declared.Equation.{Equation}
 use Rattle.ordered_lists.specs.Members.{IsIn}
 use Rattle.ordered_lists.proofs.Members.{all_at}
 use Rattle.normal_rule.specs.declared.NodeType.{NodeType}

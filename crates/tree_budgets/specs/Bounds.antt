@@ -22,7 +22,7 @@ use Rattle.degree_numbers.specs.declared.Types.{Types}
 use Rattle.degree_numbers.specs.declared.Kind.TheVariants.{Noise, Kernel}
 use Rattle.degree_numbers.specs.Degree.{IsWithin, degree_plus, degree_zero}
 use Rattle.degree_numbers.specs.Types.{type_degree, kind_of}
-use Rattle.equation_file.specs.declared.Equation.{Equation}
+use Rattle.equations.specs.declared.Equation.{Equation}
 use Rattle.normal_rule.specs.declared.EdgeType.{EdgeType}
 use Rattle.normal_rule.specs.declared.NodeType.{NodeType}
 use Rattle.normal_rule.specs.declared.RuleRow.{RuleRow}

@@ -3,7 +3,7 @@ ghost use Rattle.std.specs.Prelude.{◌≡◌, ◌<◌, ◌⊎◌, length, map, 
 ghost use Rattle.std.specs.Int.{w64};
 ghost use Rattle.std.specs.List.{range_with_len};
 ghost use Rattle.degree_numbers.specs.Degree.{IsWithin};
-ghost use Rattle.equation_file.specs.Accepted.{IsEquation};
+ghost use Rattle.equations.specs.Accepted.{IsEquation};
 ghost use Rattle.normal_rule.specs.Regularity.{IsSubcritical};
 ghost use Rattle.conforming_trees.specs.Conforming.{IsRule};
 ghost use Rattle.conforming_trees.specs.Budgets.{IsNotAbove};
@@ -13,7 +13,7 @@ use crate::lows::{are_low, least_degrees};
 use crate::mosts::{are_enough, greatest_degrees};
 use crate::sums::{NO_DEGREE, type_degree};
 use degree_numbers::{Degree, TypeId};
-use equation_file::Equation;
+use equations::Equation;
 use normal_rule::{Rule, regularity_of};
 use sqlite_items::Items;
 use std::alloc::{AllocError, Global};

@@ -7,13 +7,13 @@ ghost use Rattle.degree_numbers.specs.Types.{AreTypes, type_degree, kind_of};
 ghost use Rattle.degree_numbers.specs.declared.Kind.TheVariants.{Kernel};
 ghost use Rattle.conforming_trees.specs.Conforming.{label, labels};
 ghost use Rattle.conforming_trees.specs.Budgets.{IsUsable, low_at, lows_of};
-ghost use Rattle.equation_file.specs.Accepted.{IsEquation};
+ghost use Rattle.equations.specs.Accepted.{IsEquation};
 ghost use Rattle.conforming_trees.specs.Conforming.{IsRule};
 ghost use Rattle.tree_budgets.specs.Bounds.{IsBounded, AreBounded, AreTypeBounds, IsLowAt, IsLowRow};
 
 use crate::sums::{at, is_usable, lows_of, plus, type_degree};
 use degree_numbers::{Degree, TypeId, Types};
-use equation_file::Equation;
+use equations::Equation;
 use normal_rule::{NodeType, Rule, RuleRow};
 use sqlite_items::Items;
 use std::alloc::{AllocError, Global};

@@ -1,6 +1,6 @@
 // The plan of a rule.
 ghost use Rattle.std.specs.Prelude.{IfOk};
-ghost use Rattle.equation_file.specs.Accepted.{IsEquation};
+ghost use Rattle.equations.specs.Accepted.{IsEquation};
 ghost use Rattle.normal_rule.specs.Regularity.{IsSubcritical};
 ghost use Rattle.conforming_trees.specs.Conforming.{IsRule};
 ghost use Rattle.tree_budgets.specs.Plan.{IsPlan};
@@ -8,7 +8,7 @@ ghost use Rattle.tree_budgets.specs.Plan.{IsPlan};
 use crate::bounds::{Bounds, make_bounds};
 use crate::rows::plan_rows;
 use degree_numbers::{Degree, TypeId};
-use equation_file::Equation;
+use equations::Equation;
 use normal_rule::{EdgeType, Rule};
 use sqlite_items::Items;
 use std::alloc::{AllocError, Global};

@@ -1,6 +1,6 @@
 // What the plan says of rows.
 ghost use Rattle.std.specs.Prelude.{IfOk, OnOk, length, ◌<◌, ◌+◌};
-ghost use Rattle.equation_file.specs.Accepted.{IsEquation};
+ghost use Rattle.equations.specs.Accepted.{IsEquation};
 ghost use Rattle.ordered_lists.specs.Members.{IsIn};
 ghost use Rattle.conforming_trees.specs.Conforming.{labels};
 ghost use Rattle.conforming_trees.specs.Budgets.{IsUsable, IsReserve};
@@ -12,7 +12,7 @@ use crate::fronts::{extending, least_with};
 use crate::plan::{Extension, PlanNode, RowPlan};
 use crate::sums::{NO_DEGREE, at};
 use degree_numbers::Degree;
-use equation_file::Equation;
+use equations::Equation;
 use normal_rule::{NodeType, Rule, RuleRow};
 use sqlite_items::Items;
 use std::alloc::{AllocError, Global};

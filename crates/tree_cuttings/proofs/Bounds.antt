@@ -54,7 +54,7 @@ all_true : {X : Type 0} (xs : List X) → AllByRecursion (λ x. Unit {0}) xs
 all_true [] = tt
 all_true (x ∷ xs) = (tt, all_true xs)
 
-all_made : (P Q R : Entry → Type 0) (f : Entry → Entry → Entry) → ((x y : Entry) → P x → Q y → R (f x y)) → (xs ys : List Entry) → AllByRecursion P xs → AllByRecursion Q ys → AllByRecursion R (pairs f xs ys)
+pub all_made : (P Q R : Entry → Type 0) (f : Entry → Entry → Entry) → ((x y : Entry) → P x → Q y → R (f x y)) → (xs ys : List Entry) → AllByRecursion P xs → AllByRecursion Q ys → AllByRecursion R (pairs f xs ys)
 all_made P Q R f h [] ys a b = tt
 all_made P Q R f h (x ∷ xs) ys a b = all_append R (map (f x) ys) (pairs f xs ys) (all_mapped Q R (f x) ys (λ y q. h x y a.0 q) b) (all_made P Q R f h xs ys a.1 b)
 

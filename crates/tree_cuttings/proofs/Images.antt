@@ -14,7 +14,7 @@ use Rattle.exact_sums.proofs.SumLaws.{total-append, total-map, total-flat_map, t
 use Rattle.tree_cuttings.proofs.Multinomials.{plus_nil, plus_all-move, choose-self, multinomial_of-move}
 use Rattle.tree_cuttings.proofs.Split.{closed_is}
 
-has_edge-raised : (s : List ℕ) (t : Plain) → has_edge (raised s t) ≡ has_edge t
+pub has_edge-raised : (s : List ℕ) (t : Plain) → has_edge (raised s t) ≡ has_edge t
 has_edge-raised s (bare n) = refl
 has_edge-raised s (graft k p c t) = refl
 

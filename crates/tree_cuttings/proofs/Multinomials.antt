@@ -1,8 +1,14 @@
 -- Sums, binomials and multinomials of multiindices.
-use Rattle.std.proofs.Common.{◌≡◌, ℕ, ◌+◌, ◌*◌, List, [], ◌∷◌, ◌++◌, refl, sym, ap, ◌∙◌, arith}
+use Rattle.std.proofs.Common.{◌≡◌, ℕ, zero, suc, ◌+◌, ◌*◌, List, [], ◌∷◌, ◌++◌, length, map, drop, sum, refl, sym, ap, subst, ◌∙◌, arith}
+use Rattle.std.proofs.lemmas.List.{drop_more, drop_all, map-id}
+use Rattle.std.proofs.lemmas.List.Sums.{sum_by-cons}
+use Rattle.std.specs.Prelude.{slice_index}
+use Rattle.std.specs.List.{AllByRecursion, range_with_len}
 use Rattle.degree_numbers.specs.Multi.{plus_of}
 use Rattle.plain_trees.specs.Multinomials.{plus_all, choose, multinomial_of}
-use Rattle.exact_sums.specs.Binomials.{binomial}
+use Rattle.exact_sums.specs.Binomials.{binomial, multinomial}
+use Rattle.exact_sums.specs.Saturating.{product}
+use Rattle.exact_sums.proofs.SaturatingLaws.{product_cons}
 use Rattle.exact_sums.proofs.MultinomialLaws.{binomial-self, binomial_either, trinomial}
 
 pub plus_nil : (xs : List ℕ) → plus_of xs [] ≡ xs
@@ -74,3 +80,54 @@ multinomial_of-move m xs ys =
     let three = ap (λ n. multinomial_of xs * multinomial_of ys * n) (one ∙ sym two) in
     let four = ap (λ n. choose (plus_of m (plus_of x y)) m * n) (multinomial_of-append xs ys) in
     rw (plus_all-append xs ys) (omega (arith, three, four))
+
+-- the multinomial of multiindices, entry by entry
+module _ {X : Type 0} (first : X → ℕ) (rest : X → List ℕ) where
+  plus_all-front : (x : X) (xs : List X) → plus_all (map (λ y. first y ∷ rest y) (x ∷ xs)) ≡ sum (map first (x ∷ xs)) ∷ plus_all (map rest (x ∷ xs))
+  plus_all-front x [] = let e : first x ≡ sum (first x ∷ []) = omega (arith, sum_by-cons (λ (n : ℕ). n) (first x) []) in rw (← e, plus_nil (rest x)) refl
+  plus_all-front x (y ∷ ys) =
+      let e : first x + sum (map first (y ∷ ys)) ≡ sum (map first (x ∷ y ∷ ys)) = sym (sum_by-cons (λ (n : ℕ). n) (first x) (map first (y ∷ ys))) in
+      rw (plus_all-front y ys, ← e) refl
+
+  multinomial_of-front : (xs : List X) → multinomial_of (map (λ y. first y ∷ rest y) xs) ≡ multinomial (map first xs) * multinomial_of (map rest xs)
+  unfolding multinomial
+  multinomial_of-front [] = refl
+  multinomial_of-front (x ∷ xs) =
+      let here : choose (plus_all (map (λ y. first y ∷ rest y) (x ∷ xs))) (first x ∷ rest x) ≡ binomial (sum (map first (x ∷ xs))) (first x) * choose (plus_all (map rest (x ∷ xs))) (rest x) =
+      ap (λ (n : List ℕ). choose n (first x ∷ rest x)) (plus_all-front x xs) in
+      let both = ap (λ (n : ℕ). n * multinomial_of (map (λ y. first y ∷ rest y) xs)) here in
+      let there = ap (λ (n : ℕ). binomial (sum (map first (x ∷ xs))) (first x) * choose (plus_all (map rest (x ∷ xs))) (rest x) * n) (multinomial_of-front xs) in
+      omega (arith, both, there)
+
+front_split : (k n : ℕ) (ms : List (List ℕ)) → AllByRecursion (λ m. length m ≡ k + suc n) ms → map (drop k) ms ≡ map (λ m. slice_index m k ∷ drop (suc k) m) ms
+front_split k n [] h = refl
+front_split k n (m ∷ ms) h =
+    let e : k + 1 ≡ suc k = omega arith in
+    let here : drop k m ≡ slice_index m k ∷ drop (suc k) m = drop_more m k 0 (omega (arith, h.0)) ∙ ap (λ (i : ℕ). slice_index m k ∷ drop i m) e in
+    rw (here, front_split k n ms h.1) refl
+
+choose-nil : (m : List ℕ) → choose m [] ≡ 1
+choose-nil [] = refl
+choose-nil (x ∷ m) = refl
+
+multinomial_of-empty : (k : ℕ) (ms : List (List ℕ)) → AllByRecursion (λ m. length m ≡ k + 0) ms → multinomial_of (map (drop k) ms) ≡ 1
+multinomial_of-empty k [] h = refl
+multinomial_of-empty k (m ∷ ms) h = rw (drop_all k m (omega (arith, h.0)), choose-nil (plus_all (map (drop k) (m ∷ ms))), multinomial_of-empty k ms h.1) refl
+
+multinomial_of-from : (k n : ℕ) (ms : List (List ℕ)) → AllByRecursion (λ m. length m ≡ k + n) ms →
+    multinomial_of (map (drop k) ms) ≡ product (map (λ i. multinomial (map (λ m. slice_index m i) ms)) (range_with_len k n))
+multinomial_of-from k zero ms h = multinomial_of-empty k ms h
+multinomial_of-from k (suc n) ms h =
+    let e : k + 1 ≡ suc k = omega arith in
+    let f = λ (i : ℕ). multinomial (map (λ (m : List ℕ). slice_index m i) ms) in
+    let d : k + suc n ≡ suc k + n = omega arith in
+    let one = ap multinomial_of (front_split k n ms h) ∙ multinomial_of-front (λ (m : List ℕ). slice_index m k) (drop (suc k)) ms in
+    let two = ap (λ (i : ℕ). f k * i) (multinomial_of-from (suc k) n ms (subst (λ (l : ℕ). AllByRecursion (λ m. length m ≡ l) ms) d h)) in
+    let three = ap (λ (i : ℕ). f k * product (map f (range_with_len i n))) (sym e) in
+    one ∙ two ∙ three ∙ sym (product_cons (f k) (map f (range_with_len (k + 1) n)))
+
+pub multinomial_of-entries : (n : ℕ) (ms : List (List ℕ)) → AllByRecursion (λ m. length m ≡ n) ms →
+    multinomial_of ms ≡ product (map (λ i. multinomial (map (λ m. slice_index m i) ms)) (range_with_len 0 n))
+multinomial_of-entries n ms h =
+    let e : n ≡ 0 + n = omega arith in
+    ap multinomial_of (sym (map-id ms)) ∙ multinomial_of-from 0 n ms (subst (λ (l : ℕ). AllByRecursion (λ m. length m ≡ l) ms) e h)

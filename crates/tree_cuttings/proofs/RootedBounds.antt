@@ -27,7 +27,7 @@ above-raised : (ty : Types) (n : List ℕ) (t : Plain) → are_above_zero ty (ra
 above-raised ty n (bare m) = refl
 above-raised ty n (graft k p c t) = ap (λ b. is_above_zero (degree_plus (edge_degree_of ty k p) (degree_of ty c)) && b) (above-raised ty n t)
 
-above-joined : (ty : Types) (s t : Plain) → are_above_zero ty (joined s t) ≡ are_above_zero ty s && are_above_zero ty t
+pub above-joined : (ty : Types) (s t : Plain) → are_above_zero ty (joined s t) ≡ are_above_zero ty s && are_above_zero ty t
 above-joined ty (bare n) t = above-raised ty n t
 above-joined ty (graft k p c s) t =
     let branch = is_above_zero (degree_plus (edge_degree_of ty k p) (degree_of ty c)) in

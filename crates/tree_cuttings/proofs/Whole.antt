@@ -11,7 +11,7 @@ use Rattle.tree_cuttings.proofs.Images.{coefficient_outside, cut_coefficient-nod
 use Rattle.tree_cuttings.proofs.FlatComponents.{numbered_components_are}
 use Rattle.tree_cuttings.proofs.FlatQuotients.{numbered_quotient_is, numbered_coefficient_is}
 
-plus-zeros : (p : List ℕ) → plus_of p (zeros p) ≡ p
+pub plus-zeros : (p : List ℕ) → plus_of p (zeros p) ≡ p
 plus-zeros [] = refl
 plus-zeros (x ∷ p) = let e : x + 0 ≡ x = omega arith in rw (e, plus-zeros p) refl
 
@@ -19,7 +19,7 @@ zeros-plus : (p : List ℕ) → plus_of (zeros p) p ≡ p
 zeros-plus [] = refl
 zeros-plus (x ∷ p) = let e : 0 + x ≡ x = omega arith in rw (e, zeros-plus p) refl
 
-choose-zeros : (ns p : List ℕ) → choose ns (zeros p) ≡ 1
+pub choose-zeros : (ns p : List ℕ) → choose ns (zeros p) ≡ 1
 unfolding binomial
 choose-zeros ns [] = refl
 choose-zeros [] (x ∷ p) = omega (arith, choose-zeros [] p)

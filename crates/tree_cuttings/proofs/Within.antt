@@ -1,5 +1,6 @@
 -- The terms of the two coproducts by recursions with a greater bound.
 use Rattle.std.proofs.Common.{◌≡◌, ℕ, suc, ◌+◌, ◌-◌, ◌*◌, ◌/◌, ◌<◌, ◌≤◌, pos, ◌≤ℤ◌, Bool, true, false, not, ◌&&◌, List, map, filter, sym, ap, ◌∙◌, arith, unsigned_abs}
+use Rattle.std.proofs.lemmas.Bool.{and_parts}
 use Rattle.std.proofs.Math.Nat.{div-add-mod, mod-lt}
 use Rattle.std.proofs.lemmas.Int.{ints}
 use Rattle.std.specs.Ordering.{is_eq}
@@ -25,12 +26,8 @@ use Rattle.tree_cuttings.proofs.Bounds.{closed_bounds}
 use Rattle.tree_cuttings.proofs.RootedBounds.{rooted_bounds}
 use Rattle.tree_cuttings.proofs.Terms.{term_of, sum_at-map, filter_ext, terms_positive, and_assoc, e_terms, r_terms, e_sum, r_sum, e_positive, r_positive, e_entry_test, r_entry_test}
 
-and_second : (a b : Bool) → a && b ≡ true → b ≡ true
-and_second true b h = h
-and_second false b h = absurd cc
-
 low : (ty : Types) (f : Plain) → is_extracted ty f ≡ true → (degree_of ty f).a ≤ℤ pos 0
-low ty f h = below_low (degree_of ty f) (and_second (not (planted ty f)) (is_below_zero (degree_of ty f)) h)
+low ty f h = below_low (degree_of ty f) (and_parts (not (planted ty f)) (is_below_zero (degree_of ty f)) h).1
 
 -- a number is below the next multiple of the denominator
 next_multiple : (ty : Types) → AreTypes ty → (size : ℕ) → size < unsigned_abs ty.units.den * suc (size / unsigned_abs ty.units.den)

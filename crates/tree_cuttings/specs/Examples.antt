@@ -12,17 +12,17 @@
 --   cherry == [u'(0,1)[xi]*u'(0,1)[xi]];  planted_cherry == [u'(0,1)[u'(0,1)[xi]*u'(0,1)[xi]]]
 --   smooth_noise == [u[u[xi]]]
 --   mixed == [X(0,1,0)*u[X(0,1,0)*xi]]
-use Rattle.std.specs.Prelude.{ℕ, ℤ, pos, neg_ℤ, List, [], ◌∷◌, codes}
+use Rattle.std.specs.Prelude.{ℕ, ℤ, pos, neg_ℤ, List, [], ◌∷◌, codes, None}
 use Rattle.degree_numbers.specs.declared.types.Types.{Types}
 use Rattle.degree_numbers.specs.declared.types.TypeEntry.{TypeEntry}
 use Rattle.degree_numbers.specs.declared.types.Kind.TheVariants.{Noise, Kernel}
 use Rattle.plain_trees.specs.Plain.{Plain, bare, graft}
 
 abbrev pub noise_type : ℤ → ℤ → TypeEntry
-noise_type a b = record { name = codes "xi"; kind = Noise; degree = record { a = a; b = b }; group = 0 }
+noise_type a b = record { name = codes "xi"; kind = Noise; degree = record { a = a; b = b }; group = 0; moments = None }
 
 abbrev pub heat_kernel : TypeEntry
-heat_kernel = record { name = codes "u"; kind = Kernel; degree = record { a = pos 4; b = pos 0 }; group = 0 }
+heat_kernel = record { name = codes "u"; kind = Kernel; degree = record { a = pos 4; b = pos 0 }; group = 0; moments = None }
 
 abbrev pub kpz : Types
 kpz =
@@ -32,6 +32,7 @@ kpz =
       units = record { den = pos 2 };
       list = noise_type (neg_ℤ (pos 3)) (neg_ℤ (pos 2)) ∷ heat_kernel ∷ [];
       groups = codes "xi" ∷ [];
+      reflect = [];
     }
 
 abbrev pub phi4 : Types
@@ -42,6 +43,7 @@ phi4 =
       units = record { den = pos 2 };
       list = noise_type (neg_ℤ (pos 5)) (neg_ℤ (pos 2)) ∷ heat_kernel ∷ [];
       groups = codes "xi" ∷ [];
+      reflect = [];
     }
 
 abbrev pub pam : Types
@@ -52,6 +54,7 @@ pam =
       units = record { den = pos 2 };
       list = noise_type (neg_ℤ (pos 2)) (neg_ℤ (pos 2)) ∷ heat_kernel ∷ [];
       groups = codes "xi" ∷ [];
+      reflect = [];
     }
 
 abbrev pub zero : List ℕ

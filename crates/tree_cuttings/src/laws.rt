@@ -1,8 +1,11 @@
 // Laws of cuttings: each is a clause of a function that does nothing.
 
-ghost use Rattle.std.specs.Prelude.{◌≡◌, ◌<◌, ◌≤◌, ◌/◌, unsigned_abs, ℕ, Bool, true, false, ◌&&◌, List, map};
+ghost use Rattle.std.specs.Prelude.{◌≡◌, ◌<◌, ◌≤◌, ◌/◌, unsigned_abs, ℕ, Bool, true, false, ◌&&◌, List, map, length, slice_index};
 ghost use Rattle.std.specs.List.{list_all};
 ghost use Rattle.exact_sums.specs.Sums.{total, counted_if};
+ghost use Rattle.exact_sums.specs.Binomials.{multinomial};
+ghost use Rattle.exact_sums.specs.Saturating.{product};
+ghost use Rattle.plain_trees.specs.Multinomials.{multinomial_of};
 ghost use Rattle.plain_trees.specs.Plain.{Plain, root_of};
 ghost use Rattle.plain_trees.specs.Flat.{tree_at, links_of};
 ghost use Rattle.plain_trees.specs.Cutting.{components, quotient, splitting_coefficient, component, root_node, is_closed, cuttings, cutting_sum};
@@ -17,7 +20,7 @@ ghost use Rattle.exact_sums.specs.Keyed.{same_by, sum_at, collected, keys};
 ghost use Rattle.degree_numbers.specs.declared.types.Types.{Types};
 ghost use Rattle.degree_numbers.specs.Types.{AreTypes};
 ghost use Rattle.std.specs.Ordering.{is_eq};
-ghost use Rattle.std.specs.List.{AllByRecursion};
+ghost use Rattle.std.specs.List.{AllByRecursion, range_with_len};
 ghost use Rattle.std.specs.List.Sorted.{IsStrictlySortedBy};
 
 /// Cuttings by numbers and cuttings read down the tree give the same sums: for every bound on the shifts, with and without the flag that the root
@@ -72,4 +75,9 @@ pub fn greater_shifts_add_no_term()
     ensures extraction { (ty : Types) (t : Plain) (n : ℕ) → AreTypes ty → negative_size ty t / unsigned_abs ty.units.den ≤ n → extraction_terms ty t ≡ collected extracted_order (map (λ e. (extracted_entry e, e.coefficient)) (extraction_entries_within (each_direction ty.dims n) ty t)) }
     ensures recentring_sums { (ty : Types) (t : Plain) (n : ℕ) (k : Recentred) → AreTypes ty → positive_size ty t / unsigned_abs ty.units.den ≤ n → cutting_sum (each_direction ty.dims n) true (λ c. is_recentred ty c && is_eq (recentred_order (recentred c) k)) t ≡ recentring_coefficient ty t k }
     ensures recentring { (ty : Types) (t : Plain) (n : ℕ) → AreTypes ty → positive_size ty t / unsigned_abs ty.units.den ≤ n → recentring_terms ty t ≡ collected recentred_order (map (λ e. (recentred_entry e, e.coefficient)) (recentring_entries_within (each_direction ty.dims n) ty t)) }
+{}
+
+/// The multinomial of multiindices is the product, over the entries, of the multinomials of the numbers that stand there.
+pub fn multinomials_entry_by_entry()
+    ensures { (n : ℕ) (ms : List (List ℕ)) → AllByRecursion (λ m. length m ≡ n) ms → multinomial_of ms ≡ product (map (λ i. multinomial (map (λ m. slice_index m i) ms)) (range_with_len 0 n)) }
 {}

@@ -1,5 +1,5 @@
 -- The entries of a written multiindex.
-use Rattle.std.proofs.Common.{◌≡◌, ℕ, zero, suc, ◌<◌, ◌≤◌, true, List, [], ◌∷◌, ◌++◌, length, drop, Some, refl, sym, ap, ◌∙◌, arith, append-nil, rules, tests}
+use Rattle.std.proofs.Common.{◌≡◌, ℕ, zero, suc, ◌<◌, ◌≤◌, true, List, [], ◌∷◌, ◌++◌, length, drop, Some, refl, sym, ap, ◌∙◌, arith, append-nil}
 use Rattle.std.proofs.lemmas.List.Sums.{take_while-cons}
 use Rattle.std.proofs.Math.Seq.{drop-append_seam}
 use Rattle.std.specs.Prelude.{min, ◌^◌, ◌-◌}
@@ -9,7 +9,7 @@ use Rattle.std.specs.Str.Parse.{digits_value, AllDigits}
 use Rattle.std.specs.Fmt.{decimal}
 use Rattle.std.proofs.lemmas.Fmt.{decimal_is_IsNumeral}
 use Rattle.std.proofs.lemmas.Str.Parse.{digit_from_value}
-use Rattle.std.specs.Int.{IsInRange}
+use Rattle.text_parts.proofs.Back.{digit_test}
 use Rattle.tree_grammar.specs.Grammar.{entries_onto, IsNumber}
 use Rattle.tree_grammar.specs.Words.{word, entry_value, behind_comma, next_entry, entries_at, values, multi_of}
 use Rattle.tree_grammar.proofs.WordSums.{word_of, number_bytes}
@@ -49,9 +49,6 @@ entries_values (suc k) (v ∷ w ∷ es) s some l h =
 
 pub entries_law : (es : List (List ℕ)) (s : List ℕ) → 0 < length es → length es ≤ 5 → AllByRecursion IsNumber es → entries_at 5 (entries_onto es s) ≡ multi_of (Some es)
 entries_law es s some l h = entries_values 5 es s some l h
-
-digit_test : (c : ℕ) → IsInRange 48 57 c → is_ascii_digit c ≡ true
-digit_test c h = search (rules, tests)
 
 digit_bytes : (ds : List ℕ) → AllDigits 10 ds → AllByRecursion (λ c. is_ascii_digit c ≡ true) ds
 digit_bytes [] h = tt

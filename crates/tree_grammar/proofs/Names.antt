@@ -1,5 +1,6 @@
 -- What a name is made of.
 use Rattle.std.proofs.Common.{◌≡◌, ℕ, ◌<◌, Bool, true, false, List, [], ◌∷◌, length, refl, arith, nat_lt}
+use Rattle.std.proofs.lemmas.Bool.{and_parts, not-true}
 use Rattle.std.proofs.lemmas.Bool.Decides.{nat_tests}
 use Rattle.std.specs.Prelude.{◌&&◌, not}
 use Rattle.std.specs.Char.{is_ascii_alphabetic}
@@ -10,23 +11,14 @@ abbrev pub IsName : List ℕ → Type 0
 IsName [] = ⊥
 IsName (b ∷ bs) = (is_ascii_alphabetic b ≡ true) × AllByRecursion (λ c. is_name_byte c ≡ true) bs × (length bs < 16) × (is_reserved (b ∷ bs) ≡ false)
 
-pub both_true : (a b : Bool) → (a && b) ≡ true → (a ≡ true) × (b ≡ true)
-both_true true true h = (refl, refl)
-both_true true false h = absurd cc
-both_true false b h = absurd cc
-
 pub and_true : (a b : Bool) → a ≡ true → b ≡ true → (a && b) ≡ true
 and_true true true h k = refl
 and_true true false h k = absurd cc
 and_true false b h k = absurd cc
 
-pub not_true : (a : Bool) → not a ≡ true → a ≡ false
-not_true true h = absurd cc
-not_true false h = refl
-
 pub all_bytes : (bs : List ℕ) → list_all is_name_byte bs ≡ true → AllByRecursion (λ c. is_name_byte c ≡ true) bs
 all_bytes [] h = tt
-all_bytes (b ∷ bs) h = let t = both_true (is_name_byte b) (list_all is_name_byte bs) h in (t.0, all_bytes bs t.1)
+all_bytes (b ∷ bs) h = let t = and_parts (is_name_byte b) (list_all is_name_byte bs) h in (t.0, all_bytes bs t.1)
 
 pub list_all_bytes : (bs : List ℕ) → AllByRecursion (λ c. is_name_byte c ≡ true) bs → list_all is_name_byte bs ≡ true
 list_all_bytes [] h = refl
@@ -35,10 +27,10 @@ list_all_bytes (b ∷ bs) h = and_true (is_name_byte b) (list_all is_name_byte b
 pub name_parts : (n : List ℕ) → is_name n ≡ true → IsName n
 name_parts [] h = absurd cc
 name_parts (b ∷ bs) h =
-    let t = both_true (is_ascii_alphabetic b && list_all is_name_byte bs) (nat_lt (length bs) 16 && not (is_reserved (b ∷ bs))) h in
-    let u = both_true (is_ascii_alphabetic b) (list_all is_name_byte bs) t.0 in
-    let v = both_true (nat_lt (length bs) 16) (not (is_reserved (b ∷ bs))) t.1 in
-    (u.0, all_bytes bs u.1, grind (arith, nat_tests), not_true (is_reserved (b ∷ bs)) v.1)
+    let t = and_parts (is_ascii_alphabetic b && list_all is_name_byte bs) (nat_lt (length bs) 16 && not (is_reserved (b ∷ bs))) h in
+    let u = and_parts (is_ascii_alphabetic b) (list_all is_name_byte bs) t.0 in
+    let v = and_parts (nat_lt (length bs) 16) (not (is_reserved (b ∷ bs))) t.1 in
+    (u.0, all_bytes bs u.1, grind (arith, nat_tests), not-true (is_reserved (b ∷ bs)) v.1)
 
 pub parts_name : (n : List ℕ) → IsName n → is_name n ≡ true
 parts_name [] h = absurd h

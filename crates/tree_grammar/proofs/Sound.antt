@@ -1,5 +1,6 @@
 -- A tree text is the text of a written tree.
 use Rattle.std.proofs.Common.{◌≡◌, ℕ, zero, suc, ◌+◌, ◌-◌, ◌<◌, Bool, true, false, List, [], ◌∷◌, ◌++◌, length, Option, Some, None, refl, sym, ap, ◌∙◌, subst, arith, inl, inr, nat_lt, append_assoc, length-append}
+use Rattle.std.proofs.lemmas.Bool.{and_parts}
 use Rattle.std.proofs.lemmas.Bool.Decides.{nat_tests}
 use Rattle.std.specs.Char.{is_ascii_digit, is_ascii_alphabetic}
 use Rattle.std.specs.List.{AllByRecursion}
@@ -129,11 +130,6 @@ module _ (ty : Types) where
     pub entry : (k : ℕ) (f : Bool) (n : List ℕ) (e o : Bool) (l : ℕ) → Taken (st Entry f n e o l (suc k)) text → Rest l k e o text
     pub digits : (k : ℕ) (f : Bool) (n : List ℕ) (e o : Bool) (l c : ℕ) → is_ascii_digit c ≡ true → Taken (st Digits f n e o l (suc k)) text → Rest l k e o (c ∷ text)
 
-  both_true : (x y : Bool) → (x && y) ≡ true → (x ≡ true) × (y ≡ true)
-  both_true true true h = (refl, refl)
-  both_true true false h = absurd cc
-  both_true false y h = absurd cc
-
   is_byte : (b c : ℕ) → (b == c) ≡ true → b ≡ c
   is_byte b c h = grind (arith, nat_tests)
 
@@ -155,16 +151,16 @@ module _ (ty : Types) where
       Taken (st After f n e o l (suc k)) (b ∷ bs) → Next e o k (b ∷ bs)
   follow_at k f n e o l b bs true y z hx hy hz ih w =
       let s : State = st After f n e o l (suc k) in
-      let t = both_true (b == 91) o hx in
+      let t = and_parts (b == 91) o hx in
       inr (t.1, bs, ap (λ (c : ℕ). c ∷ bs) (is_byte b 91 t.0), opened_says k After f n e o l bs ih (peel s b (opened s) bs (rw hx refl) w))
   follow_at k f n e o l b bs false true z hx hy hz ih w =
       let s : State = st After f n e o l (suc k) in
-      let t = both_true (b == 93) e hy in
+      let t = and_parts (b == 93) e hy in
       let same : b ≡ 93 = is_byte b 93 t.0 in
       inl (t.1, rw same (tail_end k bs (closed_says k After f n e o l bs ih (peel s b (closed s) bs (rw (hx, hy) refl) w))))
   follow_at k f n e o l b bs false false true hx hy hz ih w =
       let s : State = st After f n e o l (suc k) in
-      let t = both_true (b == 42) e hz in
+      let t = and_parts (b == 42) e hz in
       let same : b ≡ 42 = is_byte b 42 t.0 in
       inl (t.1, rw same (ih.factor k false n e o l (peel s b (st Factor false n e o l (suc k)) bs (rw (hx, hy, hz) refl) w)))
   follow_at k f n e o l b bs false false false hx hy hz ih w = absurd (dead (st After f n e o l (suc k)) b bs (rw (hx, hy, hz) refl) w)
@@ -223,9 +219,9 @@ module _ (ty : Types) where
   factor_at : (k : ℕ) (f : Bool) (n : List ℕ) (e o : Bool) (l b : ℕ) (bs : List ℕ) (x y : Bool) → (b == 93 && f) ≡ x → is_ascii_alphabetic b ≡ y → Says bs → Taken (st Factor f n e o l (suc k)) (b ∷ bs) → Here f k (b ∷ bs)
   factor_at k true n e o l b bs true y hx hy ih w =
       let s : State = st Factor true n e o l (suc k) in
-      let t = both_true (b == 93) true hx in
+      let t = and_parts (b == 93) true hx in
       rw (is_byte b 93 t.0) (inner_end k bs (closed_says k Factor true n e o l bs ih (peel s b (closed s) bs (rw hx refl) w)))
-  factor_at k false n e o l b bs true y hx hy ih w = let t = both_true (b == 93) false hx in let u : false ≡ true = t.1 in absurd cc
+  factor_at k false n e o l b bs true y hx hy ih w = let t = and_parts (b == 93) false hx in let u : false ≡ true = t.1 in absurd cc
   factor_at k f n e o l b bs false true hx hy ih w =
       ih.name k f (b ∷ []) e o l (hy, tt, omega arith) (peel (st Factor f n e o l (suc k)) b (st Name f (b ∷ []) e o l (suc k)) bs (rw (hx, hy) refl) w)
   factor_at k f n e o l b bs false false hx hy ih w = absurd (dead (st Factor f n e o l (suc k)) b bs (rw (hx, hy) refl) w)
@@ -265,8 +261,8 @@ module _ (ty : Types) where
       (ih.name k f (n ++ b ∷ []) e o l (partial_more n b p hx hy) (peel (st Name f n e o l (suc k)) b (st Name f (n ++ b ∷ []) e o l (suc k)) bs (rw (hx, hy) refl) w))
   name_at k f n e o l b bs true false z u v d hx hy hz hu hv ih p w = absurd (dead (st Name f n e o l (suc k)) b bs (rw (hx, hy) refl) w)
   name_at k f n e o l b bs false y true true v d hx hy hz hu hv ih p w =
-      let t = both_true (b == 40 && f) (bytes_eq n (88 ∷ [])) hu in
-      let r = both_true (b == 40) f t.0 in
+      let t = and_parts (b == 40 && f) (bytes_eq n (88 ∷ [])) hu in
+      let r = and_parts (b == 40) f t.0 in
       root_at k f n b bs d r.0 r.1 t.1 (ih.entry k f n true false (ty.dims - 1) (peel (st Name f n e o l (suc k)) b (st Entry f n true false (ty.dims - 1) (suc k)) bs (rw (hx, hz, hu) refl) w))
   name_at k f n e o l b bs false y true false v d hx hy hz hu hv ih p w = absurd (dead (st Name f n e o l (suc k)) b bs (rw (hx, hz, hu) refl) w)
   name_at k f n e o l b bs false y false u true d hx hy hz hu hv ih p w =

@@ -1,9 +1,9 @@
 -- The stem without an edge.
-use Rattle.std.proofs.Common.{◌≡◌, ℕ, ◌<◌, ◌≤◌, Bool, true, List, [], ◌∷◌, map, length, get_or, Some, refl, sym, ap, ◌∙◌, subst, arith, All, inl}
+use Rattle.std.proofs.Common.{◌≡◌, ℕ, ◌<◌, List, [], length, get_or, Some, refl, sym, ap, ◌∙◌, subst, arith, All}
 use Rattle.std.specs.Prelude.{slice_get}
 use Rattle.degree_numbers.specs.declared.degree.Degree.{Degree}
-use Rattle.degree_numbers.specs.Degree.{degree_plus, degree_zero}
-use Rattle.equation_file.specs.declared.equation.Equation.{Equation}
+use Rattle.degree_numbers.specs.Degree.{degree_plus}
+use Rattle.equations.specs.declared.equation.Equation.{Equation}
 use Rattle.ordered_lists.specs.Members.{IsIn}
 use Rattle.ordered_lists.proofs.Members.{in_map, from_map}
 use Rattle.plain_trees.specs.Plain.{Plain, bare, graft, edge_count_of, root_of}
@@ -12,7 +12,6 @@ use Rattle.plain_trees.specs.Degree.{empty_tree, degree_of}
 use Rattle.normal_rule.specs.declared.rule.RuleRow.{RuleRow}
 use Rattle.normal_rule.specs.declared.rule.Rule.{Rule}
 use Rattle.normal_rule.specs.Order.{empty_node}
-use Rattle.conforming_trees.specs.Conforming.{labels, node_type_of}
 use Rattle.conforming_trees.specs.Budgets.{IsNotAbove, IsUsable, IsReserve, IsShaped, IsStem, most_at}
 use Rattle.conforming_trees.proofs.Roots.{zeros_multi, zeros_degree}
 use Rattle.conforming_trees.proofs.Degrees.{zero_plus}
@@ -27,7 +26,7 @@ use Rattle.tree_pool.specs.Content.{Content, tree_at}
 use Rattle.tree_pool.specs.declared.node.TreeId.{TreeId}
 use Rattle.tree_pool.proofs.Walks.{get_or-slice_get, at_holds}
 use Rattle.tree_listing.specs.declared.level.Stem.{Stem}
-use Rattle.tree_listing.specs.Levels.{Sprout, sprout_of, sprouts, IsSprout, AreSprouts, IsSetting}
+use Rattle.tree_listing.specs.Levels.{sprout_of, sprouts, IsSprout, AreSprouts, IsSetting}
 use Rattle.tree_listing.specs.Made.{one_if, is_not_above, node_at, no_node}
 use Rattle.tree_listing.proofs.Growing.{holds_below}
 use Rattle.tree_listing.proofs.Members.{member_of, below_of}

@@ -1,7 +1,5 @@
 -- What is found is right, and nothing is missed.
-use Rattle.std.proofs.Common.{◌≡◌, ◌≢◌, ℕ, ◌<◌, ◌≤◌, ◌&&◌, Bool, true, false, not, nat_lt, if◌then◌else◌, List, [], ◌∷◌, ◌++◌, length, Some, None, Option, refl, sym, ap, ◌∙◌, subst, arith, inl, inr}
-use Rattle.std.specs.BTreeSet.{insert_key}
-use Rattle.std.specs.List.Sorted.{IsStrictlySortedBy}
+use Rattle.std.proofs.Common.{◌≡◌, ◌≢◌, ℕ, ◌<◌, ◌≤◌, Bool, true, false, not, nat_lt, if◌then◌else◌, List, [], ◌∷◌, Some, None, Option, refl, sym, ap, ◌∙◌, subst, arith, inl, inr}
 use Rattle.std.specs.Ordering.{is_lt, ordering_reverse}
 use Rattle.std.specs.declared.cmp.Ordering.{Ordering}
 use Rattle.std.specs.declared.cmp.Ordering.TheVariants.{Less, Equal, Greater}
@@ -10,7 +8,7 @@ use Rattle.std.proofs.lemmas.Bool.Decides.{nat_tests}
 use Rattle.degree_numbers.specs.declared.types.Types.{Types}
 use Rattle.degree_numbers.specs.Degree.{degree_order, degree_zero}
 use Rattle.degree_numbers.proofs.Orders.{degree_order_total, degree_exact}
-use Rattle.equation_file.specs.declared.equation.Equation.{Equation}
+use Rattle.equations.specs.declared.equation.Equation.{Equation}
 use Rattle.ordered_lists.specs.Members.{IsIn}
 use Rattle.ordered_lists.proofs.Insertion.{from_insert_key, insert_key_old, insert_key_new, insert_key_sorted}
 use Rattle.ordered_lists.proofs.Members.{in_append_left}
@@ -24,7 +22,7 @@ use Rattle.conforming_trees.specs.Listed.{listing_order, IsCandidate, IsListed, 
 use Rattle.conforming_trees.proofs.Orders.{listing_order_total}
 use Rattle.conforming_trees.proofs.Wholes.{whole_is_candidate}
 use Rattle.tree_budgets.specs.declared.plan.RulePlan.{RulePlan}
-use Rattle.tree_listing.specs.Gathered.{Gathered, is_possible, first_of, with_listed, with_zero, with_possible, with_tree, with_trees, IsOverfull, IsBefore, IsSound, Covers, IsMore, IsFoundIn, gathered}
+use Rattle.tree_listing.specs.Gathered.{Gathered, is_possible, first_of, with_possible, with_tree, with_trees, IsOverfull, IsBefore, IsSound, Covers, IsMore, IsFoundIn, gathered}
 use Rattle.tree_pool.specs.Content.{Content, IsGrown}
 use Rattle.tree_listing.specs.declared.found.Found.{Found}
 use Rattle.tree_listing.specs.Levels.{AreWholes}

@@ -1,24 +1,22 @@
 -- Stems and wholes while the pool grows.
-use Rattle.std.proofs.Common.{◌≡◌, ℕ, zero, suc, ◌+◌, ◌<◌, ◌≤◌, List, [], ◌∷◌, ◌++◌, map, take, length, get_or, Some, refl, sym, ap, ◌∙◌, subst, arith, All, length-append}
-use Rattle.std.specs.Prelude.{slice_get}
+use Rattle.std.proofs.Common.{◌≡◌, ℕ, suc, ◌+◌, ◌<◌, List, [], ◌∷◌, ◌++◌, map, take, length, get_or, refl, sym, ap, ◌∙◌, arith, All}
 use Rattle.std.proofs.lemmas.List.{map-append, take_more}
 use Rattle.std.proofs.lemmas.List.Elements.{All-push}
 use Rattle.std.proofs.lemmas.Option.{slice_get_within}
-use Rattle.plain_trees.specs.Plain.{Plain, bare, graft, IsSmall}
+use Rattle.plain_trees.specs.Plain.{Plain, graft}
 use Rattle.plain_trees.specs.Canon.{canon}
-use Rattle.plain_trees.specs.Degree.{HasTypes}
 use Rattle.plain_trees.specs.View.{Labelled, grafted}
 use Rattle.plain_trees.proofs.CanonLaws.{canon_fixed}
 use Rattle.conforming_trees.specs.Budgets.{with_root}
 use Rattle.tree_pool.specs.Content.{Content, Holds, tree_at, tree_over, edge_over, AreBelow, IsGrown, IsKept}
 use Rattle.tree_pool.specs.declared.node.TreeId.{TreeId}
 use Rattle.tree_pool.specs.declared.node.EdgeTo.{EdgeTo}
-use Rattle.tree_pool.proofs.Growth.{grown_length, grown_at, grown_trans}
+use Rattle.tree_pool.proofs.Growth.{grown_length, grown_at}
 use Rattle.tree_pool.proofs.Trees.{AreBelow-le}
 use Rattle.tree_pool.proofs.Walks.{at_holds, no_edge}
 use Rattle.tree_listing.specs.declared.level.Stem.{Stem}
 use Rattle.tree_listing.specs.declared.level.Growth.{Growth}
-use Rattle.tree_listing.specs.Levels.{Sprout, trees, sprout_of, sprouts, tree_of_growth, sprout_of_growth, IsGrowthIn}
+use Rattle.tree_listing.specs.Levels.{trees, sprout_of, sprouts, tree_of_growth, sprout_of_growth, IsGrowthIn}
 
 pub all_head : {X : Type 0} (P : X → Type 0) (x : X) (xs : List X) → All P (x ∷ xs) → P x
 all_head P x xs h = h 0 x (omega arith)

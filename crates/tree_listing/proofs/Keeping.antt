@@ -1,11 +1,9 @@
 -- What is kept while wholes are put in.
-use Rattle.std.proofs.Common.{◌≡◌, ℕ, zero, suc, ◌+◌, ◌-◌, ◌<◌, ◌≤◌, Bool, true, false, ◌&&◌, not, List, [], ◌∷◌, ◌++◌, map, take, drop, length, get_or, fold, flat_map, if◌then◌else◌, Some, None, refl, sym, ap, ◌∙◌, subst, arith, All, nat_lt, Option}
-use Rattle.std.proofs.lemmas.Int.{ints}
+use Rattle.std.proofs.Common.{◌≡◌, ℕ, zero, suc, ◌+◌, ◌<◌, ◌≤◌, true, false, List, [], ◌∷◌, ◌++◌, map, take, drop, length, get_or, flat_map, if◌then◌else◌, Some, None, refl, sym, ap, ◌∙◌, subst, arith, All, Option}
 use Rattle.std.proofs.lemmas.List.{map-append, take_more, append_assoc}
 use Rattle.std.proofs.lemmas.List.Elements.{All-push}
 use Rattle.std.proofs.lemmas.Grind.{flat_map-append}
 use Rattle.std.specs.Option.{option_map}
-use Rattle.std.specs.BTreeSet.{insert_key}
 use Rattle.std.specs.List.Sorted.{IsStrictlySortedBy}
 use Rattle.std.specs.declared.cmp.Ordering.{Ordering}
 use Rattle.std.specs.declared.cmp.Ordering.TheVariants.{Less, Equal, Greater}
@@ -13,7 +11,6 @@ use Rattle.degree_numbers.specs.declared.degree.Degree.{Degree}
 use Rattle.degree_numbers.specs.declared.multi.Multi.{Multi}
 use Rattle.degree_numbers.specs.declared.types.Types.{Types}
 use Rattle.degree_numbers.specs.Degree.{degree_order, degree_zero}
-use Rattle.ordered_lists.specs.Members.{IsIn}
 use Rattle.ordered_lists.proofs.Insertion.{insert_key_sorted}
 use Rattle.plain_trees.specs.Plain.{Plain}
 use Rattle.plain_trees.specs.Degree.{degree_of}
@@ -22,7 +19,7 @@ use Rattle.conforming_trees.specs.Listed.{listing_order}
 use Rattle.conforming_trees.proofs.Orders.{listing_order_total}
 use Rattle.tree_pool.specs.Content.{Content, Holds, tree_at, IsGrown, IsKept, IsPooled}
 use Rattle.tree_pool.specs.declared.node.TreeId.{TreeId}
-use Rattle.tree_pool.proofs.Growth.{grown_at, grown_length}
+use Rattle.tree_pool.proofs.Growth.{grown_at}
 use Rattle.tree_pool.proofs.Walks.{at_holds}
 use Rattle.tree_listing.specs.declared.found.Found.{Found}
 use Rattle.tree_listing.specs.declared.level.Stem.{Stem}
@@ -31,7 +28,7 @@ use Rattle.tree_listing.specs.Levels.{trees, stem_tree, stem_trees}
 use Rattle.tree_listing.specs.Roots.{IsRoom, roots_to}
 use Rattle.tree_listing.specs.Gathered.{Gathered, gathered, IsFoundIn, IsKeeping, IsDecorable, is_possible, with_possible, with_tree, with_trees, IsOverfull, room_of, with_root_of, decorated, decorated_all}
 use Rattle.tree_listing.proofs.Growing.{trees-grown, ids-grown, grown_below, holds_below}
-use Rattle.tree_listing.proofs.Places.{length-trees, no_id}
+use Rattle.tree_listing.proofs.Places.{length-trees}
 use Rattle.tree_listing.proofs.Walks.{small_at}
 use Rattle.tree_listing.proofs.RootLaws.{all_of_members}
 

@@ -1,7 +1,7 @@
 -- Levels while the pool grows, and one more level.
-use Rattle.std.proofs.Common.{◌≡◌, ℕ, zero, suc, ◌+◌, ◌<◌, ◌≤◌, ◌⊎◌, List, [], ◌∷◌, ◌++◌, map, length, get_or, Some, refl, sym, ap, ◌∙◌, subst, arith, All, inl, inr, length-append}
+use Rattle.std.proofs.Common.{◌≡◌, ℕ, zero, suc, ◌+◌, ◌<◌, ◌≤◌, ◌⊎◌, List, [], ◌∷◌, ◌++◌, length, Some, refl, sym, ap, ◌∙◌, subst, arith, All, inl, inr}
 use Rattle.std.specs.Prelude.{slice_get}
-use Rattle.equation_file.specs.declared.equation.Equation.{Equation}
+use Rattle.equations.specs.declared.equation.Equation.{Equation}
 use Rattle.ordered_lists.specs.Members.{IsIn}
 use Rattle.plain_trees.specs.Plain.{Plain, edge_count_of}
 use Rattle.plain_trees.specs.Degree.{empty_tree}
@@ -12,20 +12,20 @@ use Rattle.degree_numbers.specs.declared.degree.Degree.{Degree}
 use Rattle.tree_budgets.specs.declared.plan.RowPlan.{RowPlan}
 use Rattle.tree_budgets.specs.declared.plan.RulePlan.{RulePlan}
 use Rattle.tree_budgets.specs.Plan.{IsRowPlan, AreRowPlans}
-use Rattle.tree_pool.specs.Content.{Content, tree_at, IsGrown}
+use Rattle.tree_pool.specs.Content.{Content, IsGrown}
 use Rattle.tree_pool.specs.declared.node.TreeId.{TreeId}
-use Rattle.tree_pool.proofs.Growth.{grown_holds, grown_trans}
+use Rattle.tree_pool.proofs.Growth.{grown_holds}
 use Rattle.tree_pool.proofs.Trees.{slice_get-append_cases}
 use Rattle.tree_listing.specs.declared.level.Stem.{Stem}
 use Rattle.tree_listing.specs.declared.level.RowLevel.{RowLevel}
 use Rattle.tree_listing.specs.declared.level.Level.{Level}
 use Rattle.tree_listing.specs.declared.found.Found.{Found}
 use Rattle.tree_listing.specs.Levels.{trees, sprouts, stem_trees, AreSprouts, AreWholes, IsRowLevel, IsLevel, AreLevels, IsSetting}
-use Rattle.tree_listing.specs.Made.{IsRowOf}
-use Rattle.tree_listing.specs.Gathered.{Gathered, gathered, IsKeeping, IsGood, IsSound, Covers, AreCovered, IsMore, with_trees, decorated_all}
+use Rattle.tree_listing.specs.Made.{IsLeast}
+use Rattle.tree_listing.specs.Gathered.{Gathered, IsKeeping, IsGood, IsSound, Covers, AreCovered, IsMore, decorated_all}
 use Rattle.tree_listing.proofs.Growing.{trees-grown, sprouts-grown, ids-grown, stems-grown}
 use Rattle.tree_listing.proofs.Keeping.{keeping-grown, gathered-grown}
-use Rattle.tree_listing.proofs.Members.{place_of, member_of, below_of}
+use Rattle.tree_listing.proofs.Leasts.{least-grown}
 use Rattle.tree_listing.proofs.RowWholes.{row_wholes_are}
 
 module _ (eq : Equation) (rule : Rule) (plan : RulePlan) where
@@ -41,7 +41,7 @@ module _ (eq : Equation) (rule : Rule) (plan : RulePlan) where
   pub row_level-grown : (c d : Content) (row : RuleRow) (e : ℕ) (x : RowLevel) → IsGrown c d → IsRowLevel eq rule plan c row e x → IsRowLevel eq rule plan d row e x
   row_level-grown c d row e x g h = record {
     kernel = h.kernel;
-    known = record { stems = stems-grown c d x.stems g h.known.stems; wholes = ids-grown c d x.wholes g h.known.wholes };
+    known = record { stems = stems-grown c d x.stems g h.known.stems; wholes = ids-grown c d x.wholes g h.known.wholes; least = least-grown c d x.wholes x.least g h.known.wholes h.known.least };
     stems = subst (AreSprouts eq rule plan row e) (sym (sprouts-grown c d x.stems g h.known.stems)) h.stems;
     wholes = subst (AreWholes eq rule plan row e) (sym (trees-grown c d x.wholes g h.known.wholes)) h.wholes;
   }
@@ -58,10 +58,10 @@ module _ (eq : Equation) (rule : Rule) (plan : RulePlan) where
   -- a row that is made
   pub row_made : (c d : Content) (p : RowPlan) (row : RuleRow) (e : ℕ) (stems : List Stem) (wholes : List TreeId) (x : RowLevel) → IsGrown c d → c.types ≡ eq.types → eq.types.dims ≤ 5 → IsRowPlan eq plan.lows plan.mosts row p →
       AreSprouts eq rule plan row e (sprouts c stems) → All (λ s. s.id.0 < length c.trees) stems → All (λ i. i.0 < length d.trees) wholes → trees d wholes ≡ decorated_all c.types p.most (stem_trees c stems) →
-      x.kernel ≡ p.kernel → x.stems ≡ stems → x.wholes ≡ wholes → IsRowLevel eq rule plan d row e x
-  row_made c d p row e stems wholes x g types five planned sprouted known ids is kernel same_stems same_wholes = record {
+      x.kernel ≡ p.kernel → x.stems ≡ stems → x.wholes ≡ wholes → IsLeast d wholes x.least → IsRowLevel eq rule plan d row e x
+  row_made c d p row e stems wholes x g types five planned sprouted known ids is kernel same_stems same_wholes least = record {
     kernel = kernel ∙ planned.kernel;
-    known = record { stems = rw same_stems (stems-grown c d stems g known); wholes = rw same_wholes ids };
+    known = record { stems = rw same_stems (stems-grown c d stems g known); wholes = rw same_wholes ids; least = rw same_wholes least };
     stems = rw same_stems (subst (AreSprouts eq rule plan row e) (sym (sprouts-grown c d stems g known)) sprouted);
     wholes = rw (same_wholes, is, types) (row_wholes_are eq rule plan c row p.most e stems five planned.most sprouted);
   }

@@ -1,6 +1,7 @@
 pub mod Walks
 pub mod Plans
 pub mod Growing
+pub mod Leasts
 pub mod RootLaws
 pub mod RootMembers
 pub mod Places

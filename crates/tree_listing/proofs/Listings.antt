@@ -1,11 +1,9 @@
 -- From what is found to the listing.
-use Rattle.std.proofs.Common.{◌≡◌, ℕ, zero, suc, ◌<◌, ◌≤◌, ◌⊎◌, Bool, true, false, List, [], ◌∷◌, length, Some, None, Option, refl, sym, ap, ◌∙◌, subst, arith, All, inl, inr}
+use Rattle.std.proofs.Common.{◌≡◌, ℕ, zero, suc, ◌<◌, ◌≤◌, ◌⊎◌, [], length, Some, None, Option, refl, sym, ap, ◌∙◌, subst, arith, inl, inr}
 use Rattle.std.specs.List.Sorted.{IsStrictlySortedBy}
 use Rattle.std.specs.Option.{option_map}
-use Rattle.std.specs.declared.cmp.Ordering.{Ordering}
-use Rattle.std.specs.declared.cmp.Ordering.TheVariants.{Less, Equal, Greater}
-use Rattle.degree_numbers.specs.Degree.{degree_order, degree_zero}
-use Rattle.equation_file.specs.declared.equation.Equation.{Equation}
+use Rattle.degree_numbers.specs.Degree.{degree_zero}
+use Rattle.equations.specs.declared.equation.Equation.{Equation}
 use Rattle.ordered_lists.specs.Members.{IsIn}
 use Rattle.ordered_lists.proofs.Lengths.{length-within}
 use Rattle.plain_trees.specs.Plain.{Plain, edge_count_of, decoration_sum_of}
@@ -22,7 +20,7 @@ use Rattle.tree_budgets.specs.Plan.{IsPlan}
 use Rattle.tree_pool.specs.Content.{Content, tree_at}
 use Rattle.tree_pool.specs.declared.node.TreeId.{TreeId}
 use Rattle.tree_listing.specs.declared.found.Found.{Found}
-use Rattle.tree_listing.specs.Gathered.{Gathered, gathered, IsFoundIn, IsKeeping, IsGood, IsSound, Covers, IsBefore}
+use Rattle.tree_listing.specs.Gathered.{Gathered, IsGood, IsSound, Covers, IsBefore}
 use Rattle.tree_listing.proofs.Places.{listing_exact}
 
 at_most_or_more : (a b : ℕ) → (a ≤ b) ⊎ (b < a)

@@ -1,7 +1,6 @@
 -- Members of lists, their places, and tests.
-use Rattle.std.proofs.Common.{◌≡◌, ℕ, zero, suc, ◌<◌, ◌≤◌, ◌==◌, ◌⊎◌, Bool, true, false, not, nat_le, if◌then◌else◌, List, [], ◌∷◌, map, length, get_or, Some, refl, sym, ap, ◌∙◌, arith, inl, inr}
+use Rattle.std.proofs.Common.{◌≡◌, ℕ, zero, suc, ◌<◌, ◌≤◌, ◌==◌, ◌⊎◌, Bool, true, false, not, nat_le, if◌then◌else◌, List, [], ◌∷◌, map, length, Some, refl, sym, ap, ◌∙◌, arith, inl, inr}
 use Rattle.std.specs.Prelude.{slice_get}
-use Rattle.std.specs.Ordering.{is_gt}
 use Rattle.std.proofs.lemmas.Bool.Decides.{nat_tests}
 use Rattle.ordered_lists.specs.Members.{IsIn}
 use Rattle.std.specs.Option.{option_map}
@@ -11,8 +10,6 @@ use Rattle.degree_numbers.specs.declared.types.Kind.{Kind}
 use Rattle.degree_numbers.specs.declared.types.Kind.TheVariants.{Noise, Kernel}
 use Rattle.degree_numbers.specs.Types.{kind_of}
 use Rattle.plain_trees.specs.Degree.{is_kernel, is_kernel_kind}
-use Rattle.degree_numbers.specs.declared.TypeId.{TypeId}
-use Rattle.degree_numbers.specs.declared.Multi.{Multi}
 use Rattle.normal_rule.specs.declared.EdgeType.{EdgeType}
 use Rattle.plain_trees.specs.Plain.{Plain, bare, graft}
 use Rattle.plain_trees.specs.Canon.{IsAtMostFirst}

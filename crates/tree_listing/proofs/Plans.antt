@@ -1,9 +1,8 @@
 -- Members of plans and levels by their places.
-use Rattle.std.proofs.Common.{◌≡◌, ℕ, ◌<◌, List, length, get_or, refl, sym, ◌∙◌, subst, All}
+use Rattle.std.proofs.Common.{◌≡◌, ℕ, ◌<◌, List, length, get_or, sym, subst, All}
 use Rattle.tree_pool.specs.Content.{Content}
 use Rattle.tree_pool.specs.declared.node.TreeId.{TreeId}
 use Rattle.tree_budgets.specs.declared.plan.RowPlan.{RowPlan}
-use Rattle.tree_budgets.specs.declared.plan.PlanNode.{PlanNode}
 use Rattle.tree_listing.specs.declared.level.RowLevel.{RowLevel}
 use Rattle.tree_listing.specs.declared.level.Level.{Level}
 use Rattle.tree_listing.specs.Made.{IsRowOf, AreIds, AreRows, IsLevelIn}

@@ -1,5 +1,5 @@
 -- Planted trees of a pool.
-use Rattle.std.proofs.Common.{◌≡◌, ℕ, ◌<◌, ◌≤◌, Bool, true, false, ◌&&◌, List, [], ◌∷◌, length, get_or, refl, sym, ap, ◌∙◌, arith}
+use Rattle.std.proofs.Common.{◌≡◌, ℕ, ◌<◌, ◌≤◌, Bool, true, false, ◌&&◌, List, [], ◌∷◌, length, get_or, refl, ◌∙◌, arith}
 use Rattle.degree_numbers.specs.Multi.{is_zero}
 use Rattle.plain_trees.specs.Degree.{planted, is_kernel}
 use Rattle.tree_pool.specs.Content.{Content, Holds, tree_at, tree_over}

@@ -1,5 +1,5 @@
 -- Decorations that fit.
-use Rattle.std.proofs.Common.{◌≡◌, ℕ, zero, ◌+◌, ◌*◌, ◌<◌, ◌≤◌, ℤ, ◌+ℤ◌, pos, List, [], ◌∷◌, ◌++◌, sum, set, length, get_or, drop, Bool, true, false, nat_le, ◌&&◌, not, inl, inr, suc, refl, sym, ap, ◌∙◌, subst, arith, FitsSigned, w64, unsigned_abs, flat_map, All}
+use Rattle.std.proofs.Common.{◌≡◌, ℕ, zero, ◌+◌, ◌<◌, ◌≤◌, ℤ, ◌+ℤ◌, pos, List, [], ◌∷◌, ◌++◌, sum, set, length, get_or, Bool, true, false, ◌&&◌, not, inl, inr, suc, refl, subst, arith, FitsSigned, w64, All}
 use Rattle.std.proofs.lemmas.Int.{ints}
 use Rattle.std.proofs.lemmas.List.{append_assoc}
 use Rattle.std.proofs.lemmas.List.Sums.{sum_by_from}
@@ -7,24 +7,17 @@ use Rattle.degree_numbers.specs.declared.types.Types.{Types}
 use Rattle.degree_numbers.specs.declared.multi.Multi.{Multi}
 use Rattle.degree_numbers.specs.Degree.{IsWithin}
 use Rattle.degree_numbers.specs.Types.{AreTypes, size_in_units}
-use Rattle.degree_numbers.specs.Degree.{degree_plus, degree_order}
+use Rattle.degree_numbers.specs.Degree.{degree_order}
 use Rattle.degree_numbers.specs.declared.degree.Degree.{Degree}
-use Rattle.degree_numbers.specs.Multi.{scaled_size}
-use Rattle.std.specs.List.{AllByRecursion}
 use Rattle.std.specs.Ordering.{is_gt}
 use Rattle.std.specs.declared.cmp.Ordering.{Ordering}
 use Rattle.std.specs.declared.cmp.Ordering.TheVariants.{Less, Equal, Greater}
-use Rattle.std.proofs.lemmas.Nat.{mul-le}
 use Rattle.ordered_lists.specs.Members.{IsIn}
-use Rattle.ordered_lists.proofs.Members.{in_append_left, in_append_right, from_append, in_flat_map, from_flat_map}
-use Rattle.plain_trees.specs.Degree.{node_degree_of, IsMultiIndex}
-use Rattle.plain_trees.specs.Building.{zeros}
 use Rattle.plain_trees.proofs.DegreeBounds.{size_most}
 use Rattle.conforming_trees.specs.Budgets.{IsNotAbove}
-use Rattle.conforming_trees.proofs.Degrees.{not_above_trans, plus_not_above, not_above_self}
 use Rattle.tree_listing.specs.declared.roots.Room.{Room}
 use Rattle.tree_listing.specs.Made.{one_if, is_not_above}
-use Rattle.tree_listing.specs.Roots.{IsRoom, fits, with_entry, entries_below, with_entries, no_decoration, roots_to}
+use Rattle.tree_listing.specs.Roots.{fits, with_entry, entries_below}
 
 pub sum_cons : (x : ℕ) (xs : List ℕ) → sum (x ∷ xs) ≡ x + sum xs
 sum_cons x xs = let all : sum (x ∷ xs) ≡ 0 + x + sum xs = sum_by_from (λ y. y) (0 + x) xs in omega (arith, all)

@@ -1,12 +1,12 @@
 -- The decorations that fit are those of the list.
-use Rattle.std.proofs.Common.{◌≡◌, ℕ, zero, suc, ◌+◌, ◌*◌, ◌<◌, ◌≤◌, List, [], ◌∷◌, ◌++◌, sum, set, length, get_or, drop, Bool, true, nat_le, refl, sym, ap, ◌∙◌, subst, arith, All, inl, inr, ◌⊎◌, unsigned_abs, pos}
+use Rattle.std.proofs.Common.{◌≡◌, ℕ, zero, suc, ◌+◌, ◌*◌, ◌<◌, ◌≤◌, List, [], ◌∷◌, sum, set, length, get_or, drop, Bool, true, false, nat_le, refl, sym, ap, ◌∙◌, subst, arith, All, inl, inr, ◌⊎◌, unsigned_abs}
 use Rattle.std.specs.List.{AllByRecursion}
 use Rattle.std.proofs.lemmas.Int.{ints}
 use Rattle.std.proofs.lemmas.Bool.Decides.{nat_tests}
+use Rattle.std.proofs.lemmas.List.{append-nil}
 use Rattle.std.proofs.lemmas.Nat.{mul-le}
 use Rattle.degree_numbers.specs.declared.types.Types.{Types}
 use Rattle.degree_numbers.specs.declared.multi.Multi.{Multi}
-use Rattle.degree_numbers.specs.declared.degree.Degree.{Degree}
 use Rattle.degree_numbers.specs.Degree.{degree_plus}
 use Rattle.degree_numbers.specs.Multi.{scaled_size}
 use Rattle.degree_numbers.specs.Types.{size_in_units}
@@ -104,17 +104,54 @@ size_unset (s ∷ ss) (x ∷ xs) (suc i) = omega (arith, size_unset ss xs i)
 units_unset : (ty : Types) (xs : List ℕ) (i : ℕ) → size_in_units ty (set xs i 0) ≤ size_in_units ty xs
 units_unset ty xs i = mul-le (unsigned_abs ty.units.den) (scaled_size ty.scaling (set xs i 0)) (unsigned_abs ty.units.den) (scaled_size ty.scaling xs) (omega arith) (size_unset ty.scaling xs i)
 
--- what fits still fits without an entry
+-- what fits still fits where it is less
+fits_less : (ty : Types) (room : Room) (m n : Multi) → sum m.entries ≤ sum n.entries → size_in_units ty m.entries ≤ size_in_units ty n.entries → fits ty room n ≡ true → fits ty room m ≡ true
+fits_less ty room m n sums sizes h =
+    let parts = from_both (nat_le (sum n.entries) room.entries) (is_not_above (degree_plus (node_degree_of ty n.entries) room.degree) room.most) h in
+    let less = node_not_above ty m.entries n.entries sizes in
+    let top = from_not_above (degree_plus (node_degree_of ty n.entries) room.degree) room.most parts.1 in
+    both (nat_le (sum m.entries) room.entries) (is_not_above (degree_plus (node_degree_of ty m.entries) room.degree) room.most)
+    (nat_less (sum m.entries) (sum n.entries) room.entries sums parts.0)
+    (not_above_test (degree_plus (node_degree_of ty m.entries) room.degree) room.most
+    (not_above_trans (degree_plus (node_degree_of ty m.entries) room.degree) (degree_plus (node_degree_of ty n.entries) room.degree) room.most
+    (plus_not_above (node_degree_of ty m.entries) (node_degree_of ty n.entries) room.degree room.degree less (not_above_self room.degree)) top))
+
+-- without an entry
 unset_fits : (ty : Types) (room : Room) (i : ℕ) (m : Multi) → fits ty room m ≡ true → fits ty room (with_entry i 0 m) ≡ true
-unset_fits ty room i m h =
-    let parts = from_both (nat_le (sum m.entries) room.entries) (is_not_above (degree_plus (node_degree_of ty m.entries) room.degree) room.most) h in
-    let less = node_not_above ty (set m.entries i 0) m.entries (units_unset ty m.entries i) in
-    let top = from_not_above (degree_plus (node_degree_of ty m.entries) room.degree) room.most parts.1 in
-    both (nat_le (sum (set m.entries i 0)) room.entries) (is_not_above (degree_plus (node_degree_of ty (set m.entries i 0)) room.degree) room.most)
-    (nat_less (sum (set m.entries i 0)) (sum m.entries) room.entries (sum_unset m.entries i) parts.0)
-    (not_above_test (degree_plus (node_degree_of ty (set m.entries i 0)) room.degree) room.most
-    (not_above_trans (degree_plus (node_degree_of ty (set m.entries i 0)) room.degree) (degree_plus (node_degree_of ty m.entries) room.degree) room.most
-    (plus_not_above (node_degree_of ty (set m.entries i 0)) (node_degree_of ty m.entries) room.degree room.degree less (not_above_self room.degree)) top))
+unset_fits ty room i m h = fits_less ty room (with_entry i 0 m) m (sum_unset m.entries i) (units_unset ty m.entries i) h
+
+-- with a less entry
+sum_entry : (xs : List ℕ) (i v w : ℕ) → v ≤ w → sum (set xs i v) ≤ sum (set xs i w)
+sum_entry [] i v w h = omega arith
+sum_entry (x ∷ xs) zero v w h = omega (arith, h, sum_cons v xs, sum_cons w xs)
+sum_entry (x ∷ xs) (suc i) v w h = omega (arith, sum_cons x (set xs i v), sum_cons x (set xs i w), sum_entry xs i v w h)
+
+size_entry : (ss xs : List ℕ) (i v w : ℕ) → v ≤ w → scaled_size ss (set xs i v) ≤ scaled_size ss (set xs i w)
+size_entry [] xs i v w h = omega arith
+size_entry (s ∷ ss) [] i v w h = omega arith
+size_entry (s ∷ ss) (x ∷ xs) zero v w h = let more : s * v ≤ s * w = mul-le s v s w (omega arith) h in omega (arith, more)
+size_entry (s ∷ ss) (x ∷ xs) (suc i) v w h = omega (arith, size_entry ss xs i v w h)
+
+entry_fits : (ty : Types) (room : Room) (i : ℕ) (n : Multi) (v w : ℕ) → v ≤ w → fits ty room (with_entry i w n) ≡ true → fits ty room (with_entry i v n) ≡ true
+entry_fits ty room i n v w h f =
+    let sizes = mul-le (unsigned_abs ty.units.den) (scaled_size ty.scaling (set n.entries i v)) (unsigned_abs ty.units.den) (scaled_size ty.scaling (set n.entries i w)) (omega arith) (size_entry ty.scaling n.entries i v w h) in
+    fits_less ty room (with_entry i v n) (with_entry i w n) (sum_entry n.entries i v w h) sizes f
+
+-- where an entry does not fit, no greater one does
+entry_past : (ty : Types) (room : Room) (i : ℕ) (n : Multi) (v w : ℕ) (b : Bool) → v ≤ w → fits ty room (with_entry i v n) ≡ false → fits ty room (with_entry i w n) ≡ b → b ≡ false
+entry_past ty room i n v w false h none is = refl
+entry_past ty room i n v w true h none is = let some = entry_fits ty room i n v w h is in absurd cc
+
+pub entries_past : (ty : Types) (room : Room) (i : ℕ) (n : Multi) (v k : ℕ) → v ≤ k → fits ty room (with_entry i v n) ≡ false → entries_below ty room i n k ≡ entries_below ty room i n v
+entries_past ty room i n zero zero h none = refl
+entries_past ty room i n (suc v) zero h none = absurd (omega (arith, h))
+entries_past ty room i n v (suc k) h none =
+    elim (at_last (suc k) v (omega (arith, h))) [
+      | inl below ↦
+          let past = entry_past ty room i n v k (fits ty room (with_entry i k n)) (omega (arith, below)) none refl in
+          rw past (append-nil (entries_below ty room i n k) ∙ entries_past ty room i n v k (omega (arith, below)) none)
+      | inr same ↦ ap (entries_below ty room i n) (sym same)
+    ]
 
 pub roots_multi : (ty : Types) (room : Room) (i : ℕ) (m : Multi) → i ≤ 5 → IsMultiIndex 5 zeros → IsIn m (roots_to ty room i) → IsMultiIndex i m.entries
 roots_multi ty room zero m l z h =

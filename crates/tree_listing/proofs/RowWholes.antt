@@ -1,12 +1,11 @@
 -- The wholes of a row are its stems with each decoration that fits.
-use Rattle.std.proofs.Common.{◌≡◌, ℕ, ◌+◌, ◌-◌, ◌<◌, ◌≤◌, ◌&&◌, Bool, true, nat_le, List, [], ◌∷◌, map, flat_map, length, refl, sym, ap, ◌∙◌, subst, arith, All, sum}
+use Rattle.std.proofs.Common.{◌≡◌, ℕ, ◌+◌, ◌-◌, ◌<◌, ◌≤◌, true, nat_le, List, length, sym, ap, ◌∙◌, subst, arith, All, sum}
 use Rattle.std.proofs.lemmas.Bool.Decides.{nat_tests}
 use Rattle.degree_numbers.specs.declared.degree.Degree.{Degree}
 use Rattle.degree_numbers.specs.declared.multi.Multi.{Multi}
 use Rattle.degree_numbers.specs.declared.types.Types.{Types}
 use Rattle.degree_numbers.specs.Degree.{degree_plus}
-use Rattle.degree_numbers.specs.Types.{AreTypes}
-use Rattle.equation_file.specs.declared.equation.Equation.{Equation}
+use Rattle.equations.specs.declared.equation.Equation.{Equation}
 use Rattle.ordered_lists.specs.Members.{IsIn}
 use Rattle.ordered_lists.proofs.Members.{all_at, in_map, from_map, in_flat_map, from_flat_map}
 use Rattle.plain_trees.specs.Plain.{Plain, bare, graft, edge_count_of, decoration_sum_of, root_of}
@@ -18,11 +17,11 @@ use Rattle.conforming_trees.specs.Budgets.{IsNotAbove, with_root, IsStem, IsWhol
 use Rattle.conforming_trees.proofs.Roots.{with_own_root, with_root_twice, edge_count-with_root, degree_by_root, decoration_sum_by_root, zeros_multi}
 use Rattle.conforming_trees.proofs.Stems.{whole_is_stem_with_root, stem_with_root_is_whole}
 use Rattle.tree_budgets.specs.declared.plan.RulePlan.{RulePlan}
-use Rattle.tree_pool.specs.Content.{Content, IsKept, tree_at}
+use Rattle.tree_pool.specs.Content.{Content, tree_at}
 use Rattle.tree_listing.specs.declared.level.Stem.{Stem}
 use Rattle.tree_listing.specs.Levels.{Sprout, stem_tree, stem_trees, sprout_of, sprouts, AreSprouts, AreWholes}
 use Rattle.tree_listing.specs.Made.{is_not_above}
-use Rattle.tree_listing.specs.Roots.{fits, roots_to}
+use Rattle.tree_listing.specs.Roots.{roots_to}
 use Rattle.tree_listing.specs.Gathered.{room_of, with_root_of, decorated, decorated_all, IsDecorable}
 use Rattle.tree_listing.proofs.RootLaws.{from_both, both, from_not_above, not_above_test, all_of_members}
 use Rattle.tree_listing.proofs.RootMembers.{roots_fit, roots_multi, in_roots}

@@ -1,8 +1,8 @@
 -- What the plan and the levels give to the making of stems.
-use Rattle.std.proofs.Common.{◌≡◌, ℕ, ◌<◌, ◌≤◌, List, [], ◌∷◌, map, length, get_or, Some, refl, sym, ap, ◌∙◌, subst, arith, All}
+use Rattle.std.proofs.Common.{◌≡◌, ℕ, ◌<◌, ◌≤◌, List, ◌∷◌, map, length, get_or, Some, sym, ap, ◌∙◌, subst, arith, All}
 use Rattle.std.specs.Prelude.{slice_get}
 use Rattle.std.proofs.lemmas.Option.{slice_get-get_or}
-use Rattle.equation_file.specs.declared.equation.Equation.{Equation}
+use Rattle.equations.specs.declared.equation.Equation.{Equation}
 use Rattle.normal_rule.specs.declared.rule.RuleRow.{RuleRow}
 use Rattle.normal_rule.specs.declared.rule.Rule.{Rule}
 use Rattle.tree_budgets.specs.declared.plan.RowPlan.{RowPlan}
@@ -14,7 +14,7 @@ use Rattle.tree_pool.specs.declared.node.TreeId.{TreeId}
 use Rattle.tree_listing.specs.declared.level.Level.{Level}
 use Rattle.tree_listing.specs.declared.level.Stem.{Stem}
 use Rattle.tree_listing.specs.declared.level.Growth.{Growth}
-use Rattle.tree_listing.specs.Levels.{sprouts, sprout_of_growth, IsGrowthIn, IsSprout, AreSprouts, AreLevels, IsSetting}
+use Rattle.tree_listing.specs.Levels.{sprout_of_growth, IsGrowthIn, IsSprout, AreSprouts, AreLevels, IsSetting}
 use Rattle.tree_listing.specs.Made.{growths, no_row, IsExtension, IsInRange, IsStemIn, IsLevelIn, IsRowOf}
 use Rattle.degree_numbers.specs.declared.types.Types.{Types}
 use Rattle.degree_numbers.specs.Degree.{IsWithin}
@@ -31,7 +31,7 @@ use Rattle.tree_budgets.proofs.Plans.{node_plan_at, node_of_plan}
 use Rattle.tree_listing.specs.Levels.{sprout_of, IsLevel}
 use Rattle.tree_listing.proofs.Members.{place_of, member_of, some_of, below_of}
 use Rattle.ordered_lists.proofs.Members.{from_map}
-use Rattle.tree_listing.proofs.Takes.{IsMade, growths_made}
+use Rattle.tree_listing.proofs.Takes.{growths_made}
 use Rattle.tree_listing.proofs.Gives.{stem_given}
 use Rattle.tree_listing.proofs.RootLaws.{all_of_members}
 

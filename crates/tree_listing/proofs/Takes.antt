@@ -1,22 +1,22 @@
 -- The stems that are to be made are stems.
-use Rattle.std.proofs.Common.{◌≡◌, ℕ, zero, suc, ◌+◌, ◌-◌, ◌<◌, ◌≤◌, ◌==◌, ◌⊎◌, ◌&&◌, Bool, true, false, nat_le, if◌then◌else◌, List, [], ◌∷◌, map, length, get_or, Some, refl, sym, ap, ◌∙◌, subst, arith, inl, inr, All}
+use Rattle.std.proofs.Common.{◌≡◌, ℕ, zero, suc, ◌+◌, ◌-◌, ◌<◌, ◌≤◌, ◌==◌, ◌&&◌, true, false, nat_le, if◌then◌else◌, List, [], ◌∷◌, map, length, Some, sym, ap, ◌∙◌, subst, arith, inl, inr}
 use Rattle.std.specs.Prelude.{slice_get}
 use Rattle.std.proofs.lemmas.Option.{slice_get-get_or}
 use Rattle.degree_numbers.specs.declared.degree.Degree.{Degree}
 use Rattle.degree_numbers.specs.declared.types.Types.{Types}
-use Rattle.degree_numbers.specs.declared.types.Kind.TheVariants.{Noise, Kernel}
+use Rattle.degree_numbers.specs.declared.types.Kind.TheVariants.{Noise}
 use Rattle.degree_numbers.specs.Degree.{degree_plus}
 use Rattle.degree_numbers.specs.Types.{kind_of}
-use Rattle.equation_file.specs.declared.equation.Equation.{Equation}
+use Rattle.equations.specs.declared.equation.Equation.{Equation}
 use Rattle.ordered_lists.specs.Members.{IsIn}
 use Rattle.ordered_lists.proofs.Members.{in_map, from_append, from_flat_map}
-use Rattle.plain_trees.specs.Plain.{Plain, graft, edge_count_of, decoration_sum_of}
+use Rattle.plain_trees.specs.Plain.{graft, edge_count_of, decoration_sum_of}
 use Rattle.plain_trees.specs.Degree.{degree_of, is_kernel, empty_tree, HasTypes}
 use Rattle.normal_rule.specs.declared.rule.NodeType.{NodeType}
 use Rattle.normal_rule.specs.declared.rule.RuleRow.{RuleRow}
 use Rattle.normal_rule.specs.declared.rule.Rule.{Rule}
 use Rattle.conforming_trees.specs.Conforming.{EdgeLabel, label, labels, node_type_of}
-use Rattle.conforming_trees.specs.Budgets.{IsNotAbove, IsStem, IsWhole, IsUsable, IsReserve, most_at}
+use Rattle.conforming_trees.specs.Budgets.{IsNotAbove}
 use Rattle.conforming_trees.proofs.Canonical.{node_type-first}
 use Rattle.conforming_trees.proofs.Stems.{IsChild, stem_grown}
 use Rattle.conforming_trees.proofs.Kernels.{edge_known}
@@ -24,9 +24,9 @@ use Rattle.tree_budgets.specs.declared.plan.Extension.{Extension}
 use Rattle.tree_budgets.specs.declared.plan.PlanNode.{PlanNode}
 use Rattle.tree_budgets.specs.declared.plan.RowPlan.{RowPlan}
 use Rattle.tree_budgets.specs.declared.plan.RulePlan.{RulePlan}
-use Rattle.tree_budgets.specs.Plan.{IsNodePlan, IsRowPlan}
+use Rattle.tree_budgets.specs.Plan.{IsRowPlan}
 use Rattle.tree_budgets.proofs.Plans.{node_plan_at}
-use Rattle.tree_pool.specs.Content.{Content, tree_at, Holds}
+use Rattle.tree_pool.specs.Content.{Content, tree_at}
 use Rattle.tree_pool.specs.declared.node.TreeId.{TreeId}
 use Rattle.tree_pool.proofs.Walks.{get_or-slice_get, at_holds}
 use Rattle.tree_listing.specs.declared.level.Stem.{Stem}
@@ -34,8 +34,8 @@ use Rattle.tree_listing.specs.declared.level.RowLevel.{RowLevel}
 use Rattle.tree_listing.specs.declared.level.Level.{Level}
 use Rattle.tree_listing.specs.declared.level.Site.{Site}
 use Rattle.tree_listing.specs.declared.level.Growth.{Growth}
-use Rattle.tree_listing.specs.Levels.{Sprout, trees, sprout_of, sprouts, tree_of_growth, sprout_of_growth, IsGrowthIn, IsSprout, AreSprouts, IsRowLevel, IsLevel, AreLevels, IsSetting}
-use Rattle.tree_listing.specs.Made.{one_if, is_not_above, is_at_most_first, grown, passes, growth_of, by_child, by_children, by_row, by_rows, by_edge, no_node, no_row, no_level, node_at, level_at, row_at, site_of, by_extension, by_stem, by_stems, by_level, growths_below, growths}
+use Rattle.tree_listing.specs.Levels.{sprout_of, tree_of_growth, sprout_of_growth, IsGrowthIn, IsSprout, IsRowLevel, IsLevel, AreLevels, IsSetting}
+use Rattle.tree_listing.specs.Made.{is_not_above, is_at_most_first, passes, growth_of, by_child, by_children, by_row, by_rows, by_edge, no_node, no_row, no_level, node_at, level_at, row_at, site_of, by_extension, by_stem, by_level, growths_below}
 use Rattle.ordered_lists.proofs.Members.{all_at}
 use Rattle.degree_numbers.specs.declared.TypeId.{TypeId}
 use Rattle.tree_listing.proofs.Members.{kernel_or_noise, place_of, member_of, some_of, below_of, from_if, same_number, at_most_test, first_from_test}

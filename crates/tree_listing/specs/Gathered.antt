@@ -33,7 +33,7 @@ use Rattle.plain_trees.specs.Degree.{degree_of, planted}
 use Rattle.conforming_trees.specs.Budgets.{with_root, IsWhole}
 use Rattle.normal_rule.specs.declared.rule.RuleRow.{RuleRow}
 use Rattle.tree_budgets.specs.declared.plan.RulePlan.{RulePlan}
-use Rattle.equation_file.specs.declared.equation.Equation.{Equation}
+use Rattle.equations.specs.declared.equation.Equation.{Equation}
 use Rattle.normal_rule.specs.declared.rule.Rule.{Rule}
 use Rattle.conforming_trees.specs.Listed.{listing_order, IsListed, IsZero}
 use Rattle.tree_pool.specs.Content.{Content, tree_at, IsKept}

@@ -11,10 +11,10 @@
 --   AreLevels eq rule plan c levels == each level has those of its number of edges
 --   IsSetting eq rule plan c empty == what stays the same while levels are made
 --   IsGrowthIn c g == it is made of trees of the pool, and such a tree as a pool keeps
-use Rattle.std.specs.Prelude.{◌≡◌, ◌<◌, ◌≤◌, ℕ, List, map, length, slice_get}
+use Rattle.std.specs.Prelude.{◌≡◌, ◌<◌, ℕ, List, map, length, slice_get}
 use Rattle.std.specs.declared.option.Option.TheVariants.{Some}
-use Rattle.equation_file.specs.declared.equation.Equation.{Equation}
-use Rattle.equation_file.specs.Accepted.{IsEquation}
+use Rattle.equations.specs.declared.equation.Equation.{Equation}
+use Rattle.equations.specs.Accepted.{IsEquation}
 use Rattle.ordered_lists.specs.Members.{IsIn}
 use Rattle.plain_trees.specs.Plain.{Plain, graft, edge_count_of}
 use Rattle.plain_trees.specs.Degree.{empty_tree}

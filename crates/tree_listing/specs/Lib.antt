@@ -1,3 +1,4 @@
+pub mod Frames
 pub mod Gathered
 pub mod Levels
 pub mod Made

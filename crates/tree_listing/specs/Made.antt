@@ -14,7 +14,7 @@
 --   row_at levels e r == what stands in the levels for e edges and the row r
 --   by_level c empty row levels edges r e == the stems with `edges` edges that arise from those with e edges
 --   growths c empty row levels edges r == all stems with `edges` edges, as they are to be made
-use Rattle.std.specs.Prelude.{ℕ, zero, suc, ◌+◌, ◌-◌, ◌<◌, ◌≤◌, ◌==◌, ◌&&◌, Bool, true, false, not, nat_le, List, [], ◌∷◌, ◌++◌, map, flat_map, length, slice_index_or, sum, if◌then◌else◌}
+use Rattle.std.specs.Prelude.{ℕ, zero, suc, ◌-◌, ◌<◌, ◌≤◌, ◌==◌, ◌&&◌, Bool, true, false, not, nat_le, List, [], ◌∷◌, ◌++◌, flat_map, length, slice_index_or, sum, if◌then◌else◌}
 use Rattle.std.specs.List.{All}
 use Rattle.std.specs.Ordering.{is_gt}
 use Rattle.degree_numbers.specs.declared.degree.Degree.{Degree}
@@ -23,6 +23,8 @@ use Rattle.degree_numbers.specs.Degree.{degree_order, degree_plus, degree_zero, 
 use Rattle.plain_trees.specs.Plain.{Plain, bare, graft, decoration_sum_of}
 use Rattle.plain_trees.specs.Canon.{planted_order}
 use Rattle.plain_trees.specs.Degree.{degree_of, is_kernel}
+use Rattle.ordered_lists.specs.Members.{IsIn}
+use Rattle.conforming_trees.specs.Budgets.{IsNotAbove}
 use Rattle.tree_pool.specs.Content.{Content, tree_at}
 use Rattle.tree_pool.specs.declared.node.TreeId.{TreeId}
 use Rattle.tree_budgets.specs.declared.plan.Extension.{Extension}
@@ -68,10 +70,17 @@ growth_of s i = record { edge = record { kind = s.edge.kind; p = s.edge.p; child
 abbrev pub AreIds : Content → List TreeId → Type 0
 AreIds c is = All (λ i. i.0 < length c.trees) is
 
+-- d is at most the degree of each of these trees, and small
+pub record IsLeast (c : Content) (is : List TreeId) (d : Degree) : Type 0 where
+  pub a : IsWithin d.a 100000000000
+  pub b : IsWithin d.b 100000000000
+  pub each : (i : TreeId) → IsIn i is → IsNotAbove d (degree_of c.types (tree_at c i.0))
+
 -- the trees that a row level names are trees of the content
 pub record IsRowOf (c : Content) (row : RowLevel) : Type 0 where
   pub stems : All (λ s. s.id.0 < length c.trees) row.stems
   pub wholes : AreIds c row.wholes
+  pub least : IsLeast c row.wholes row.least
 
 abbrev pub AreRows : Content → List RowLevel → Type 0
 AreRows c rows = All (IsRowOf c) rows
@@ -96,7 +105,7 @@ abbrev pub no_node : PlanNode
 no_node = record { reserve = degree_zero; extensions = [] }
 
 abbrev pub no_row : RowLevel
-no_row = record { kernel = record { 0 = 0 }; stems = []; wholes = [] }
+no_row = record { kernel = record { 0 = 0 }; stems = []; wholes = []; least = degree_zero }
 
 abbrev pub no_level : Level
 no_level = record { rows = [] }

@@ -4,7 +4,7 @@
 --   with_entry i v n == n with the entry v in direction i
 --   entries_below ty room i n k == those of the decorations n with an entry less than k in direction i that fit
 --   roots_to ty room i == the decorations in the first i directions that fit
-use Rattle.std.specs.Prelude.{◌≤◌, ℕ, zero, suc, ◌+◌, ◌&&◌, Bool, nat_le, List, [], ◌∷◌, ◌++◌, flat_map, set, sum}
+use Rattle.std.specs.Prelude.{◌≤◌, ℕ, zero, suc, ◌+◌, ◌&&◌, Bool, nat_le, List, [], ◌++◌, flat_map, set, sum}
 use Rattle.degree_numbers.specs.declared.multi.Multi.{Multi}
 use Rattle.degree_numbers.specs.declared.types.Types.{Types}
 use Rattle.degree_numbers.specs.Degree.{degree_plus, IsWithin}

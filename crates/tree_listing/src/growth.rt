@@ -4,10 +4,11 @@ ghost use Rattle.std.specs.List.{All};
 ghost use Rattle.ordered_lists.specs.Members.{IsIn};
 ghost use Rattle.tree_pool.specs.declared.node.TreeId.{TreeId};
 ghost use Rattle.tree_listing.specs.declared.level.RowLevel.{RowLevel};
-ghost use Rattle.tree_listing.specs.Made.{IsSite, AreIds, AreRows, IsExtension, IsInRange, IsStemIn, IsLevelIn, growth_of, site_of, by_children, by_rows, by_edge, by_stem, by_stems, growths};
+ghost use Rattle.tree_listing.specs.Frames.{IsFrame};
+ghost use Rattle.tree_listing.specs.Made.{IsSite, AreIds, IsRowOf, AreRows, IsExtension, IsInRange, IsStemIn, IsLevelIn, growth_of, site_of, by_children, by_rows, by_edge, by_stem, by_stems, growths};
 
 use crate::level::{Growth, Level, RowLevel, Site, Stem};
-use crate::passes::passes;
+use crate::passes::{Frame, frame_of, leaves_room, passes};
 use plain_trees::is_kernel_type;
 use std::alloc::{AllocError, Global};
 use tree_budgets::{Extension, RowPlan};
@@ -34,16 +35,37 @@ fn put_children(
     made: &mut Vec<Growth>,
     pool: &Pool<'_>,
     site: &Site,
+    frame: &Frame,
     children: &[TreeId],
 ) -> Result<(), AllocError>
     requires site { IsSite pool.now site.now }
+    requires frame { IsFrame pool.now site.now frame.now }
     requires children { AreIds pool.now children.now }
     ensures { OnOk result (made.new.items ≡ made.old.items ++ by_children pool.now site.now children.now) }
 {
     for child in children {
-        if passes(pool, site, *child) {
+        if passes(pool, site, frame, *child) {
             made.push(growth_of(site, *child))?;
         }
+    }
+    Ok(())
+}
+
+/// Puts in what arises with each of the wholes of a row.
+fn put_row(
+    made: &mut Vec<Growth>,
+    pool: &Pool<'_>,
+    site: &Site,
+    frame: &Frame,
+    row: &RowLevel,
+) -> Result<(), AllocError>
+    requires site { IsSite pool.now site.now }
+    requires frame { IsFrame pool.now site.now frame.now }
+    requires row { IsRowOf pool.now row.now }
+    ensures { OnOk result (made.new.items ≡ made.old.items ++ by_children pool.now site.now row.now.wholes) }
+{
+    if leaves_room(site, frame, &row.least) {
+        put_children(made, pool, site, frame, row.wholes.as_slice())?;
     }
     Ok(())
 }
@@ -59,9 +81,10 @@ fn put_rows(
     requires rows { AreRows pool.now rows.now }
     ensures { OnOk result (made.new.items ≡ made.old.items ++ by_rows pool.now site.now rows.now) }
 {
+    let frame = frame_of(pool, site);
     for row in rows {
         if row.kernel == site.edge.kind {
-            put_children(made, pool, site, row.wholes.as_slice())?;
+            put_row(made, pool, site, &frame, row)?;
         }
     }
     Ok(())
@@ -84,7 +107,8 @@ fn put_edge(
     if is_kernel_type(pool.types(), site.edge.kind) {
         put_rows(made, pool, site, rows)
     } else if above == 0 {
-        put_children(made, pool, site, &[empty])
+        let frame = frame_of(pool, site);
+        put_children(made, pool, site, &frame, &[empty])
     } else {
         Ok(())
     }

@@ -11,12 +11,13 @@ pub struct Stem {
     pub node: usize,
 }
 
-/// The stems and the wholes with one number of edges, on the row of a kernel.
+/// The stems and the wholes with one number of edges, on the row of a kernel, and a degree that is at most that of each whole.
 #[derive(Debug, Drop)]
 pub struct RowLevel {
     pub kernel: TypeId,
     pub stems: Items<Stem>,
     pub wholes: Items<TreeId>,
+    pub least: Degree,
 }
 
 /// These of all rows, in their order.

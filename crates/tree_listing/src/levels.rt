@@ -1,17 +1,17 @@
 // The levels.
-ghost use Rattle.std.specs.Prelude.{◌≡◌, ◌<◌, ◌≤◌, ◌++◌, ◌∷◌, [], length, slice_get, Some, IfOk, IfErr, OnOk};
+ghost use Rattle.std.specs.Prelude.{◌≡◌, ◌⊎◌, ◌<◌, ◌≤◌, ◌++◌, ◌∷◌, [], length, slice_get, Some, IfOk, IfErr, OnOk};
 ghost use Rattle.std.specs.List.{All};
 ghost use Rattle.normal_rule.specs.declared.RuleRow.{RuleRow};
 ghost use Rattle.tree_pool.specs.Content.{IsGrown};
 ghost use Rattle.tree_listing.specs.declared.refusal.ListRefusal.TheVariants.{TooManyTrees, TreeTooLarge};
 ghost use Rattle.ordered_lists.specs.Members.{IsIn};
 ghost use Rattle.plain_trees.specs.Plain.{Plain};
-ghost use Rattle.equation_file.specs.Accepted.{IsEquation};
+ghost use Rattle.equations.specs.Accepted.{IsEquation};
 ghost use Rattle.conforming_trees.specs.Conforming.{IsRule};
-ghost use Rattle.conforming_trees.specs.Budgets.{IsWhole};
+ghost use Rattle.conforming_trees.specs.Budgets.{IsNotAbove, IsWhole};
 ghost use Rattle.tree_budgets.specs.Plan.{IsPlan};
 ghost use Rattle.conforming_trees.specs.Listed.{HasTooManyTrees};
-ghost use Rattle.tree_listing.specs.Made.{one_if, is_not_above, node_at};
+ghost use Rattle.tree_listing.specs.Made.{one_if, is_not_above, node_at, AreIds, IsLeast};
 ghost use Rattle.tree_listing.specs.Gathered.{gathered, IsGood, Covers, AreCovered, IsMore};
 ghost use Rattle.tree_listing.specs.Levels.{trees, sprouts, IsSetting, AreLevels, AreSprouts, IsRowLevel, IsLevel};
 
@@ -22,8 +22,8 @@ use crate::passes::is_not_above;
 use crate::refusal::ListRefusal;
 use crate::stems::stems_of;
 use crate::wholes::wholes_of;
-use degree_numbers::Multi;
-use equation_file::Equation;
+use degree_numbers::{Degree, Multi};
+use equations::Equation;
 use normal_rule::Rule;
 use sqlite_items::Items;
 use std::alloc::{AllocError, Global};
@@ -32,6 +32,9 @@ use tree_pool::{Pool, PoolError, TreeId};
 
 // The greatest number of edges of a listed tree.
 const MOST_EDGES: usize = 24;
+
+// No tree that is not too large has a greater degree.
+const MOST_DEGREE: i64 = 100_000_000_000;
 
 /// What stays the same while levels are made: the equation, its rule with the plan of it, and the number of the empty tree.
 #[derive(Clone, Copy)]
@@ -99,6 +102,31 @@ fn row_stems(
     grown_stems(alloc, setting, pool, levels, row)
 }
 
+// The lesser of two degrees.
+fn lesser(d: &Degree, e: &Degree) -> Degree
+    ensures is { (result ≡ d.now) ⊎ (result ≡ e.now) }
+    ensures d { IsNotAbove result d.now }
+    ensures e { IsNotAbove result e.now }
+{
+    if is_not_above(d, e) { *d } else { *e }
+}
+
+/// A degree that is at most that of each of these trees: the least of them, or where there are none the greatest of a tree that is not too large.
+fn least_degree(pool: &Pool<'_>, wholes: &[TreeId]) -> Degree
+    requires { AreIds pool.now wholes.now }
+    ensures { IsLeast pool.now wholes.now result }
+{
+    pool.laws();
+    let mut least = Degree {
+        a: MOST_DEGREE,
+        b: 0,
+    };
+    for id in wholes {
+        least = lesser(&least, &pool.degree(*id));
+    }
+    least
+}
+
 /// The stems and the wholes of a row with as many edges as there are levels.
 fn row_level(
     alloc: Global,
@@ -124,10 +152,12 @@ fn row_level(
     let plan = &setting.plan.rows.as_slice()[row];
     let stems = row_stems(alloc, setting, pool, levels, row)?;
     let wholes = wholes_of(alloc, pool, found, &plan.most, stems.as_slice())?;
+    let least = least_degree(pool, wholes.as_slice());
     Ok(RowLevel {
         kernel: plan.kernel,
         stems,
         wholes: Items::from_vec(wholes),
+        least,
     })
 }
 

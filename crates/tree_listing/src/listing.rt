@@ -3,7 +3,7 @@ ghost use Rattle.std.specs.Prelude.{◌≡◌, ◌<◌, length, IfOk, IfErr};
 ghost use Rattle.std.specs.List.{All};
 ghost use Rattle.std.specs.Option.{option_map};
 ghost use Rattle.std.specs.declared.option.Option.TheVariants.{Some};
-ghost use Rattle.equation_file.specs.Accepted.{IsEquation};
+ghost use Rattle.equations.specs.Accepted.{IsEquation};
 ghost use Rattle.normal_rule.specs.Regularity.{IsSubcritical};
 ghost use Rattle.conforming_trees.specs.Conforming.{IsRule};
 ghost use Rattle.conforming_trees.specs.Listed.{IsWholeList, IsFirstZero, HasTooManyTrees, HasTooLargeTree};
@@ -14,7 +14,7 @@ ghost use Rattle.tree_listing.specs.Levels.{trees};
 
 use crate::levels::gather;
 use crate::refusal::ListRefusal;
-use equation_file::Equation;
+use equations::Equation;
 use large_trees::has_too_large_tree;
 use normal_rule::Rule;
 use sqlite_items::Items;

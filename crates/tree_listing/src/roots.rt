@@ -57,7 +57,7 @@ fn put_fitting(
     Ok(())
 }
 
-/// Puts in the decorations that fit, with any entry in this direction.
+/// Puts in the decorations that fit, with any entry in this direction: where one does not fit, no greater one does.
 #[tactic(auto, using(crate::proofs::RootLaws::sum_set))]
 fn put_entries(
     more: &mut Vec<Multi>,
@@ -73,7 +73,11 @@ fn put_entries(
     ensures { OnOk result (more.new.items ≡ more.old.items ++ with_entries types.now room.now direction n.now) }
 {
     for entry in 0..room.entries + 1 {
-        put_fitting(more, types, room, with_entry(n, direction, entry))?;
+        let n = with_entry(n, direction, entry);
+        if !fits(types, room, &n) {
+            return Ok(());
+        }
+        more.push(n)?;
     }
     Ok(())
 }

@@ -11,7 +11,7 @@ use Rattle.tree_pool.specs.Content.{Content, tree_at, id_order, IsPooled}
 use Rattle.tree_pool.specs.Forests.{AreKnown, IsSorting}
 use Rattle.tree_pool.proofs.Ids.{id_order-at, known_at, known_permuted}
 
-sorted_trees : (c : Content) (f : List ℕ) → AreKnown c f → IsSorted (id_order c.trees) f → IsSorted tree_order (map (tree_at c) f)
+pub sorted_trees : (c : Content) (f : List ℕ) → AreKnown c f → IsSorted (id_order c.trees) f → IsSorted tree_order (map (tree_at c) f)
 sorted_trees c f known h = λ k d l m.
     let long : length (map (tree_at c) f) ≡ length f = length-map f (tree_at c) in
     let a : k + 1 < length f = omega arith in

@@ -1,47 +1,21 @@
 -- Lists of numbers of trees, in the order of their trees.
-use Rattle.std.proofs.Common.{◌≡◌, ◌≢◌, ℕ, zero, suc, ◌+◌, ◌<◌, ◌≤◌, Bool, true, List, [], ◌∷◌, ◌++◌, length, get_or, slice_get, Some, refl, sym, ap, ◌∙◌, arith, All, subst, inl, inr}
-use Rattle.std.specs.Bool.{Decides}
+use Rattle.std.proofs.Common.{◌≡◌, ℕ, zero, suc, ◌+◌, ◌<◌, ◌≤◌, List, [], ◌∷◌, ◌++◌, length, get_or, slice_get, Some, refl, sym, ◌∙◌, arith, All, subst, inl, inr}
 use Rattle.std.specs.Cmp.{IsTotalOrder}
-use Rattle.std.specs.Cmp.Lexicographic.{options_total, pointwise}
+use Rattle.std.specs.Cmp.Lexicographic.{options_total}
 use Rattle.std.specs.List.Sorted.{IsSorted, IsPermutation}
-use Rattle.std.specs.Option.{option_map}
-use Rattle.std.proofs.lemmas.Bool.Decides.{Decides-eqb, Decides-like}
 use Rattle.std.proofs.lemmas.Cmp.{on_total}
 use Rattle.std.proofs.lemmas.List.{get_or-map, length-map, map-append}
 use Rattle.std.proofs.lemmas.List.Sorted.{All-permutation}
-use Rattle.std.proofs.lemmas.Option.{slice_get_within, slice_get-get_or, slice_get-map}
-use Rattle.std.proofs.lemmas.Slice.Eq.{slice_eq-Decides}
+use Rattle.std.proofs.lemmas.Option.{slice_get-get_or}
 use Rattle.plain_trees.specs.Plain.{Plain, bare, tree_order}
 use Rattle.plain_trees.proofs.OrderLaws.{tree_order_total}
 use Rattle.tree_pool.specs.Content.{Content, tree_at, id_order, IsGrown}
 use Rattle.tree_pool.specs.Forests.{numbers, numbers_of, forests_of, forest_at, AreKnown, IsForest, IsSorting, Fits, LacksForest, AreDistinct, IsGrownWith}
-use Rattle.tree_pool.specs.contracts.node.TreeIdPartialEq.TheImpl.{eq-value}
 use Rattle.tree_pool.specs.declared.node.TreeId.{TreeId}
 use Rattle.tree_pool.specs.declared.forest.Forest.{Forest}
 use Rattle.tree_pool.proofs.Growth.{grown_length}
 use Rattle.tree_pool.proofs.Walks.{get_or-slice_get}
 use Rattle.tree_pool.proofs.Trees.{distinct-push, slice_get-append, slice_get-append_cases, slice_get-end, slice_get_some}
-
--- `==` at a number decides equality
-abbrev id_made : ℕ → TreeId
-id_made i = record { 0 = i }
-
-pub TreeId-Decides : (a b : TreeId) → Decides (eq-value.it a b) (a ≡ b)
-TreeId-Decides a b = Decides-like _ (λ (h : a.0 ≡ b.0). let e : id_made a.0 ≡ id_made b.0 = cc in e) (λ (h : a ≡ b). ap (λ (i : TreeId). i.0) h) (Decides-eqb a.0 b.0)
-
-pub ids-Decides : (xs ys : List TreeId) (r : Bool) → r ≡ pointwise eq-value.it xs ys → Decides r (xs ≡ ys)
-ids-Decides = slice_eq-Decides TreeId-Decides
-
-pub numbers-injective : (xs ys : List TreeId) → numbers xs ≡ numbers ys → xs ≡ ys
-numbers-injective [] [] h = refl
-numbers-injective [] (y ∷ ys) h = absurd cc
-numbers-injective (x ∷ xs) [] h = absurd cc
-numbers-injective (x ∷ xs) (y ∷ ys) h =
-    let first : x.0 ≡ y.0 = cc in
-    let rest : numbers xs ≡ numbers ys = cc in
-    let head : id_made x.0 ≡ id_made y.0 = cc in
-    let tails = numbers-injective xs ys rest in
-    ap (λ (z : TreeId). z ∷ xs) head ∙ ap (λ (zs : List TreeId). y ∷ zs) tails
 
 -- the order of numbers
 pub id_order_total : (ts : List Plain) → IsTotalOrder (id_order ts)
@@ -89,24 +63,6 @@ by_index c (i ∷ ids) h = (h 0 0 (omega arith), by_index c ids (λ k d lt. h (s
 
 pub known_permuted : (c : Content) (xs ys : List ℕ) → IsPermutation xs ys → AreKnown c xs → AreKnown c ys
 known_permuted c xs ys p h = by_index c ys (All-permutation (λ i. i < length c.trees) xs ys p (λ k d lt. known_at c xs k d h lt))
-
-pub same_trees : (xs ys : List TreeId) (r : Bool) → r ≡ pointwise eq-value.it xs ys → (r ≡ true → numbers xs ≡ numbers ys) × (numbers xs ≡ numbers ys → r ≡ true)
-same_trees xs ys r h =
-    let d = ids-Decides xs ys r h in
-    (λ t. ap numbers (d.0 t), λ e. d.1 (numbers-injective xs ys e))
-
-pub forest_not_here : (fs : List Forest) (i : ℕ) (d : Forest) (f : List ℕ) → i < length fs → (numbers_of (get_or fs i d) ≡ f → ⊥) → slice_get (forests_of fs) i ≢ Some f
-forest_not_here fs i d f h differs found =
-    let there : slice_get (forests_of fs) i ≡ Some (numbers_of (get_or fs i d)) = slice_get-map numbers_of fs i ∙ ap (option_map numbers_of) (slice_get-get_or fs i d h) in
-    let same : numbers_of (get_or fs i d) ≡ f = cc in
-    differs same
-
-pub forest_nowhere : (fs : List Forest) (f : List ℕ) (i : ℕ) → length fs ≤ i → ((k : ℕ) → k < i → slice_get (forests_of fs) k ≢ Some f) → LacksForest (forests_of fs) f
-forest_nowhere fs f i h none k found = none k (omega (arith, slice_get_within (forests_of fs) k f found, length-map fs numbers_of)) found
-
-pub forests_push : (fs : List Forest) (f : Forest) → forests_of (fs ++ f ∷ []) ≡ forests_of fs ++ numbers_of f ∷ []
-forests_push [] f = refl
-forests_push (g ∷ fs) f = ap (λ (ls : List (List ℕ)). numbers_of g ∷ ls) (forests_push fs f)
 
 -- one more forest
 pub forests_distinct : (fs more : List Forest) (f : List ℕ) → AreDistinct (forests_of fs) → LacksForest (forests_of fs) f → forests_of more ≡ forests_of fs ++ f ∷ [] → AreDistinct (forests_of more)

@@ -1,10 +1,12 @@
 pub mod Equal
 pub mod ForestLaws
+pub mod ForestOrders
 pub mod Growth
 pub mod Ids
 pub mod JoinedLaws
 pub mod Makings
 pub mod Nodes
+pub mod Sets
 pub mod Sorts
 pub mod Trees
 pub mod Walks

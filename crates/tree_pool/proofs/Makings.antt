@@ -20,7 +20,7 @@ use Rattle.plain_trees.proofs.CanonLaws.{canon_same, canon_fixed, same_canon}
 use Rattle.plain_trees.proofs.DegreeLaws.{same_types}
 use Rattle.plain_trees.proofs.Inserts.{canon_count, canon_sum}
 use Rattle.tree_pool.specs.Content.{Content, Holds, tree_at, edge_over, labelled_by, canon_over, tree_over, AreBelow, IsPooled, IsGrown}
-use Rattle.tree_pool.specs.Joined.{with_root_plus, joined, planted_by}
+use Rattle.plain_trees.specs.Joined.{raised, joined, planted_by}
 use Rattle.tree_pool.specs.declared.node.EdgeTo.{EdgeTo}
 use Rattle.tree_pool.proofs.Growth.{grown_edges, grown_length}
 use Rattle.tree_pool.proofs.Trees.{AreBelow-le}
@@ -28,12 +28,12 @@ use Rattle.tree_pool.proofs.Sorts.{below_append}
 use Rattle.tree_pool.proofs.Walks.{at_holds}
 
 -- the product of two trees by their edges
-with_root_plus-grafted : (n m : List ℕ) (us : List Labelled) → with_root_plus n (grafted m us) ≡ grafted (plus_of n m) us
-with_root_plus-grafted n m [] = refl
-with_root_plus-grafted n m (u ∷ us) = ap (graft u.kind.0 u.p.entries u.child) (with_root_plus-grafted n m us)
+raised-grafted : (n m : List ℕ) (us : List Labelled) → raised n (grafted m us) ≡ grafted (plus_of n m) us
+raised-grafted n m [] = refl
+raised-grafted n m (u ∷ us) = ap (graft u.kind.0 u.p.entries u.child) (raised-grafted n m us)
 
 joined-grafted : (n m : List ℕ) (us vs : List Labelled) → joined (grafted n us) (grafted m vs) ≡ grafted (plus_of n m) (us ++ vs)
-joined-grafted n m [] vs = with_root_plus-grafted n m vs
+joined-grafted n m [] vs = raised-grafted n m vs
 joined-grafted n m (u ∷ us) vs = ap (graft u.kind.0 u.p.entries u.child) (joined-grafted n m us vs)
 
 pub joined_at : (c : Content) (i j : ℕ) (n m : List ℕ) (es fs : List EdgeTo) → Holds c i (tree_over c.trees n es) → Holds c j (tree_over c.trees m fs) →

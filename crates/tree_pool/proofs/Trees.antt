@@ -7,7 +7,7 @@ use Rattle.degree_numbers.specs.declared.types.Types.{Types}
 use Rattle.ordered_lists.specs.Members.{IsIn}
 use Rattle.plain_trees.specs.Plain.{Plain, bare}
 use Rattle.tree_pool.specs.Content.{tree_over, AreBelow, IsDistinct, IsKept, HasChildrenAmong}
-use Rattle.tree_pool.specs.Nodes.{Shape, shapes, tree_of_shape, trees_after, trees_of, IsMadeFrom, AreNodes, LacksShape}
+use Rattle.tree_pool.specs.Nodes.{Shape, shapes, tree_of_shape, trees_after, made_trees, IsMadeFrom, AreNodes, LacksShape}
 use Rattle.tree_pool.specs.declared.node.EdgeTo.{EdgeTo}
 use Rattle.tree_pool.specs.declared.node.Node.{Node}
 
@@ -15,8 +15,8 @@ pub length-trees_after : (ts : List Plain) (xs : List Shape) → length (trees_a
 length-trees_after ts [] = omega arith
 length-trees_after ts (x ∷ xs) = length-trees_after (ts ++ tree_of_shape ts x ∷ []) xs ∙ omega (arith, length-append ts (tree_of_shape ts x ∷ []))
 
-pub length-trees_of : (xs : List Shape) → length (trees_of xs) ≡ length xs
-length-trees_of xs = omega (arith, length-trees_after [] xs)
+pub length-made_trees : (xs : List Shape) → length (made_trees xs) ≡ length xs
+length-made_trees xs = omega (arith, length-trees_after [] xs)
 
 pub length-shapes : (xs : List Node) → length (shapes xs) ≡ length xs
 length-shapes xs = grind (arith, common_steps)
@@ -67,9 +67,9 @@ trees_after-at ts (y ∷ ys) (suc i) x made h =
     let made' : IsMadeFrom (length next) ys = rw one made.1 in
     rw place (trees_after-at next ys i x made' h)
 
-pub trees_of-at : (xs : List Shape) (i : ℕ) (x : Shape) → IsMadeFrom 0 xs → slice_get xs i ≡ Some x →
-    (slice_get (trees_of xs) i ≡ Some (tree_of_shape (trees_of xs) x)) × AreBelow i x.edges
-trees_of-at xs i x made h = let zero-plus : 0 + i ≡ i = omega arith in rw zero-plus at (trees_after-at [] xs i x made h)
+pub made_trees-at : (xs : List Shape) (i : ℕ) (x : Shape) → IsMadeFrom 0 xs → slice_get xs i ≡ Some x →
+    (slice_get (made_trees xs) i ≡ Some (tree_of_shape (made_trees xs) x)) × AreBelow i x.edges
+made_trees-at xs i x made h = let zero-plus : 0 + i ≡ i = omega arith in rw zero-plus at (trees_after-at [] xs i x made h)
 
 pub AreBelow-le : (i j : ℕ) (es : List EdgeTo) → i ≤ j → AreBelow i es → AreBelow j es
 AreBelow-le i j [] h b = tt
@@ -128,29 +128,29 @@ slice_get_some (x ∷ xs) zero h = (x, refl)
 slice_get_some (x ∷ xs) (suc i) h = slice_get_some xs i (omega (arith, h))
 
 -- a node that is not there makes a tree that is not there
-pub lacks_tree : (xs : List Shape) (n : List ℕ) (es : List EdgeTo) → IsMadeFrom 0 xs → IsDistinct (trees_of xs) → AreBelow (length xs) es → LacksShape xs n es →
-    (i : ℕ) → slice_get (trees_of xs) i ≢ Some (tree_over (trees_of xs) n es)
+pub lacks_tree : (xs : List Shape) (n : List ℕ) (es : List EdgeTo) → IsMadeFrom 0 xs → IsDistinct (made_trees xs) → AreBelow (length xs) es → LacksShape xs n es →
+    (i : ℕ) → slice_get (made_trees xs) i ≢ Some (tree_over (made_trees xs) n es)
 lacks_tree xs n es made distinct b lacks i h =
-    let len = length-trees_of xs in
-    let within : i < length xs = omega (arith, slice_get_within (trees_of xs) i (tree_over (trees_of xs) n es) h, len) in
+    let len = length-made_trees xs in
+    let within : i < length xs = omega (arith, slice_get_within (made_trees xs) i (tree_over (made_trees xs) n es) h, len) in
     let node = slice_get_some xs i within in
-    let at = trees_of-at xs i node.0 made node.1 in
-    let same : tree_of_shape (trees_of xs) node.0 ≡ tree_over (trees_of xs) n es = cc (at.0, h) in
-    let parts = tree_over-injective (trees_of xs) node.0.n n node.0.edges es distinct
-    (AreBelow-le i (length (trees_of xs)) node.0.edges (omega (arith, len)) at.1) (rw len b) same in
+    let at = made_trees-at xs i node.0 made node.1 in
+    let same : tree_of_shape (made_trees xs) node.0 ≡ tree_over (made_trees xs) n es = cc (at.0, h) in
+    let parts = tree_over-injective (made_trees xs) node.0.n n node.0.edges es distinct
+    (AreBelow-le i (length (made_trees xs)) node.0.edges (omega (arith, len)) at.1) (rw len b) same in
     let shape : (λ (m : List ℕ) (fs : List EdgeTo). let s : Shape = record { n = m; edges = fs } in s) node.0.n node.0.edges ≡ record { n = n; edges = es } = rw (parts.0, parts.1) refl in
     lacks i (node.1 ∙ ap Some shape)
 
 -- the nodes with one more
-pub AreNodes-push : (ty : Types) (xs : List Shape) (n : List ℕ) (es : List EdgeTo) → AreNodes ty xs → AreBelow (length xs) es → LacksShape xs n es → IsKept ty (tree_over (trees_of xs) n es) →
+pub AreNodes-push : (ty : Types) (xs : List Shape) (n : List ℕ) (es : List EdgeTo) → AreNodes ty xs → AreBelow (length xs) es → LacksShape xs n es → IsKept ty (tree_over (made_trees xs) n es) →
     AreNodes ty (xs ++ record { n = n; edges = es } ∷ [])
 AreNodes-push ty xs n es nodes b lacks keeps =
-    let trees : trees_of (xs ++ record { n = n; edges = es } ∷ []) ≡ trees_of xs ++ tree_over (trees_of xs) n es ∷ [] = trees_after-push [] xs record { n = n; edges = es } in
+    let trees : made_trees (xs ++ record { n = n; edges = es } ∷ []) ≡ made_trees xs ++ tree_over (made_trees xs) n es ∷ [] = trees_after-push [] xs record { n = n; edges = es } in
     record {
       types = nodes.types;
       made = IsMadeFrom-push 0 xs record { n = n; edges = es } nodes.made (let same : 0 + length xs ≡ length xs = omega arith in rw same b);
-      distinct = rw trees (distinct-push (trees_of xs) (tree_over (trees_of xs) n es) nodes.distinct (lacks_tree xs n es nodes.made nodes.distinct b lacks));
-      kept = rw trees (λ i t h. elim (slice_get-append_cases (trees_of xs) (tree_over (trees_of xs) n es) i t h) [ inl old ↦ nodes.kept i t old | inr new ↦ rw (sym new.1) keeps ]);
+      distinct = rw trees (distinct-push (made_trees xs) (tree_over (made_trees xs) n es) nodes.distinct (lacks_tree xs n es nodes.made nodes.distinct b lacks));
+      kept = rw trees (λ i t h. elim (slice_get-append_cases (made_trees xs) (tree_over (made_trees xs) n es) i t h) [ inl old ↦ nodes.kept i t old | inr new ↦ rw (sym new.1) keeps ]);
     }
 
 -- the trees above the edges of a root stand before it
@@ -164,4 +164,4 @@ pub children_among : (ts : List Plain) (i : ℕ) (n : List ℕ) (es : List EdgeT
 children_among ts i n [] k b = tt
 children_among ts i n (e ∷ es) k b = (IsIn-at ts i e.child.0 b.0 k, children_among ts i n es k b.1)
 
-pub ruleset trees_facts = (length-trees_of, length-shapes)
+pub ruleset trees_facts = (length-made_trees, length-shapes)

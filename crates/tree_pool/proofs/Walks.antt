@@ -1,12 +1,14 @@
 -- Walks over the edges of a root.
 use Rattle.std.proofs.Common.{◌≡◌, ℕ, zero, suc, ◌<◌, ◌≤◌, ◌+◌, ◌-◌, List, [], ◌∷◌, map, take, drop, length, get_or, slice_get, Some, refl, sym, ap, ◌∙◌, arith, min, sum, Ordering, Equal, nat_cmp, length-drop}
 use Rattle.std.proofs.lemmas.Bool.Decides.{nat_tests}
+use Rattle.std.proofs.lemmas.Cmp.{tied_itself}
 use Rattle.std.proofs.lemmas.List.{length-map}
 use Rattle.std.proofs.lemmas.Grind.{common_steps}
 use Rattle.std.specs.Ordering.{ordering_then}
 use Rattle.std.specs.Cmp.Lexicographic.{slice_cmp}
 use Rattle.plain_trees.specs.Plain.{Plain, bare, graft, root_of, edge_count_of, decoration_sum_of, edges_order, tree_order}
 use Rattle.plain_trees.specs.View.{Labelled, grafted, edge_order_of}
+use Rattle.plain_trees.proofs.OrderLaws.{tree_order_total}
 use Rattle.plain_trees.proofs.Orders.{edges_order-cons, then_stops}
 use Rattle.plain_trees.proofs.Views.{root_of-grafted}
 use Rattle.tree_pool.specs.Content.{Content, tree_at, Holds, edge_over, tree_over, AreBelow}
@@ -86,6 +88,10 @@ pub edges_whole : (c : Content) (i j : ℕ) (n m : List ℕ) (es fs : List EdgeT
 edges_whole c i j n m es fs h k =
     edges_order-roots [] [] n m (map (edge_over c.trees) es) (map (edge_over c.trees) fs)
     ∙ rw (at_holds c i (tree_over c.trees n es) h, at_holds c j (tree_over c.trees m fs) k) refl
+
+-- one number, one tree
+pub same_tree : (c : Content) (i j : ℕ) → i ≡ j → Equal ≡ tree_order (tree_at c i) (tree_at c j)
+same_tree c i j e = rw (← e) (sym (tied_itself tree_order_total (tree_at c i)))
 
 pub order_roots : (s t : Plain) (o : Ordering) → Equal ≡ nat_cmp (edge_count_of s) (edge_count_of t) → o ≡ slice_cmp nat_cmp (root_of s) (root_of t) → (o ≡ Equal → ⊥) → o ≡ tree_order s t
 order_roots s t o counts is stops = rw (← counts, ← is) (sym (then_stops o (edges_order s t) stops))

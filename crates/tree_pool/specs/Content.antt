@@ -1,6 +1,8 @@
 -- What a pool holds, as contracts see it.
 --   Content == the types that a pool was made with, and its trees by number
+--   content_code == a code for contents: the pair of the fields
 --   tree_at c i == the tree with the number i
+--   trees_at c is, trees_of c ids == the trees with the numbers is, ids, in their order
 --   Holds c i t == the tree with the number i is t
 --   labelled_by kind p t == the edge of this type and derivative decoration, with the tree t above it
 --   edge_over ts e == the edge e, with the tree above it that its number names
@@ -29,6 +31,7 @@ use Rattle.plain_trees.specs.View.{Labelled, grafted}
 use Rattle.plain_trees.specs.Canon.{canon, IsCanonical}
 use Rattle.plain_trees.specs.Degree.{HasTypes}
 use Rattle.tree_pool.specs.declared.node.EdgeTo.{EdgeTo}
+use Rattle.tree_pool.specs.declared.node.TreeId.{TreeId}
 use Rattle.tree_pool.specs.Types.{types_code}
 
 pub record Content : Type 0 where
@@ -41,6 +44,12 @@ content_code = code_by (Types × List Plain) (coded× types_code (coded_list pla
 
 abbrev pub tree_at : Content → ℕ → Plain
 tree_at c i = slice_index_or c.trees i (bare [])
+
+abbrev pub trees_at : Content → List ℕ → List Plain
+trees_at c = map (tree_at c)
+
+abbrev pub trees_of : Content → List TreeId → List Plain
+trees_of c ids = map (λ id. tree_at c id.0) ids
 
 abbrev pub Holds : Content → ℕ → Plain → Type 0
 Holds c i t = slice_get c.trees i ≡ Some t

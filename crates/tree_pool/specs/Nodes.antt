@@ -1,13 +1,14 @@
 -- The nodes of a pool and the trees that they stand for.
 --   Shape == the root decoration and the edges of a node, as lists
---   shapes xs == the shapes of the nodes xs
---   trees_of xs == the trees of the nodes xs, by place
---   IsMade xs == the children of each node stand before it
+--   shape_of x, shapes xs == the shape of the node x, the shapes of the nodes xs
+--   tree_of_shape ts x == the tree of the shape x, its edges leading to trees of ts
+--   trees_after ts xs == the trees ts, and behind them those of the shapes xs
+--   made_trees xs == the trees of the shapes xs, by place
+--   IsMadeFrom i xs, IsMade xs == the children of each shape stand before it, i shapes and then xs
 --   AreNodes ty xs == what the shapes of the nodes of every pool with the types ty meet
 --   measure ty t == the degree, the number of edges and the decoration sum of t
---   measures_of xs == the measures that the nodes xs keep, by place
---   AreMeasured ty xs == each node keeps the measures of its tree
---   AreMeasuredNodes ty xs == what the nodes of every pool with the types ty meet, with their measures
+--   AreMeasured ty xs ms == ms are the measures of the trees of the nodes xs, by place
+--   AreMeasuredNodes ty xs ms == what the nodes of every pool with the types ty meet, with the measures that it keeps of them
 --   IsShapeAt xs i n es == the node at place i has root decoration n and the edges es
 --   LacksShape xs n es == no node has root decoration n and the edges es
 --   GainsShape xs ys n es == ys is xs with such a node behind it
@@ -34,15 +35,13 @@ shapes = map shape_of
 abbrev pub tree_of_shape : List Plain → Shape → Plain
 tree_of_shape ts x = tree_over ts x.n x.edges
 
--- the trees ts, and behind them those of the nodes xs
 abbrev pub trees_after : List Plain → List Shape → List Plain
 trees_after ts [] = ts
 trees_after ts (x ∷ xs) = trees_after (ts ++ tree_of_shape ts x ∷ []) xs
 
-abbrev pub trees_of : List Shape → List Plain
-trees_of = trees_after []
+abbrev pub made_trees : List Shape → List Plain
+made_trees = trees_after []
 
--- the same behind i nodes
 abbrev pub IsMadeFrom : ℕ → List Shape → Type 0
 IsMadeFrom i [] = ⊤
 IsMadeFrom i (x ∷ xs) = AreBelow i x.edges × IsMadeFrom (i + 1) xs
@@ -53,30 +52,24 @@ IsMade = IsMadeFrom 0
 pub record AreNodes (ty : Types) (xs : List Shape) : Type 0 where
   pub types : AreTypes ty
   pub made : IsMade xs
-  pub distinct : IsDistinct (trees_of xs)
-  pub kept : (i : ℕ) (t : Plain) → slice_get (trees_of xs) i ≡ Some t → IsKept ty t
+  pub distinct : IsDistinct (made_trees xs)
+  pub kept : (i : ℕ) (t : Plain) → slice_get (made_trees xs) i ≡ Some t → IsKept ty t
 
 abbrev pub measure : Types → Plain → Measures
 measure ty t = record { degree = degree_of ty t; edges = edge_count_of t; decorations = decoration_sum_of t }
 
-abbrev pub measures_of : List Node → List Measures
-measures_of = map (λ x. x.measures)
+abbrev pub AreMeasured : Types → List Node → List Measures → Type 0
+AreMeasured ty xs ms = ms ≡ map (measure ty) (made_trees (shapes xs))
 
-abbrev pub AreMeasured : Types → List Node → Type 0
-AreMeasured ty xs = measures_of xs ≡ map (measure ty) (trees_of (shapes xs))
-
-pub record AreMeasuredNodes (ty : Types) (xs : List Node) : Type 0 where
+pub record AreMeasuredNodes (ty : Types) (xs : List Node) (ms : List Measures) : Type 0 where
   pub nodes : AreNodes ty (shapes xs)
-  pub measured : AreMeasured ty xs
+  pub measured : AreMeasured ty xs ms
 
 abbrev pub IsShapeAt : List Shape → ℕ → List ℕ → List EdgeTo → Type 0
 IsShapeAt xs i n es = slice_get xs i ≡ Some record { n = n; edges = es }
 
 abbrev pub LacksShape : List Shape → List ℕ → List EdgeTo → Type 0
 LacksShape xs n es = (i : ℕ) → slice_get xs i ≢ Some record { n = n; edges = es }
-
-abbrev pub HasShape : Shape → List ℕ → List EdgeTo → Type 0
-HasShape x n es = (x.n ≡ n) × (x.edges ≡ es)
 
 abbrev pub GainsShape : List Shape → List Shape → List ℕ → List EdgeTo → Type 0
 GainsShape xs ys n es = ys ≡ xs ++ record { n = n; edges = es } ∷ []

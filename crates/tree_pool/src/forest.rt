@@ -1,30 +1,38 @@
-// Forests of trees of a pool, in a list that is walked.
-ghost use Rattle.std.specs.Prelude.{◌≡◌, ◌≢◌, ◌<◌, ◌++◌, ◌∷◌, [], ◌↔◌, ℕ, List, length, slice_get, Some, IfOk, OnOk, OnErr, IsTrue, MatchOption};
-ghost use Rattle.tree_pool.specs.Forests.{numbers, numbers_of, forests_of, forest_at, AreKnown, IsSorting, Fits, LacksForest, AreDistinct, IsGrownWith};
+// Forests of trees of a pool, in a hashed set whose positions are their numbers.
+ghost use Rattle.std.specs.Prelude.{◌≡◌, ◌<◌, ◌++◌, ◌∷◌, [], ℕ, List, length, slice_get, Some, IfOk, OnOk, OnErr, MatchOption};
+ghost use Rattle.tree_pool.specs.Forests.{numbers, forests_of, forest_at, AreKnown, IsSorting, Fits, LacksForest, AreDistinct, IsGrownWith};
 
 use crate::error::PoolError;
 use crate::lists::appended;
 use crate::node::TreeId;
 use crate::pool::Pool;
 use bumpalo::Bump;
+use indexmap::IndexSet;
 use std::alloc::{AllocError, Global};
 use std::marker::Model;
 
-/// The number of a forest: its position in its forest pool.
-#[derive(Clone, Copy, Debug, PartialEq, Eq, Hash)]
+/// The number of a forest: its position in its forest pool. The order of numbers is that in which their forests came into the forest pool.
+#[derive(Clone, Copy, Debug, PartialEq, Eq, PartialOrd, Ord, Hash)]
 pub struct ForestId(pub usize);
 
-/// The trees of a forest, in tree order.
+/// The trees of a forest, in tree order. Two are equal where they have the same numbers, wherever these stand in memory.
 #[derive(Clone, Copy, Debug, PartialEq, Eq, Hash)]
 struct Forest<'a> {
     trees: &'a [TreeId],
 }
 
 /// Forests by number, each once. Contracts see the list of the forests, each as the list of the numbers of its trees.
+///
+/// **Order.** Numbers are given from 0 on as forests come in, and stay while the forest pool grows. They are equal exactly where the forests are; `order` compares
+/// the forests themselves. The trees of a forest are in tree order, each as often as it stands in the forest.
+///
+/// **Invariant.** No forest stands at two places. That the forests are those of one pool is a condition of each call that takes both.
+///
+/// **Example.** The forest of the trees 2 and 1 of the example of `Pool` is the list 1, 2; its join with itself is 1, 1, 2, 2.
 #[derive(Drop)]
 pub struct ForestPool<'a> {
     arena: &'a Bump,
-    forests: Vec<Forest<'a>>,
+    forests: IndexSet<Forest<'a>>,
 }
 
 impl<'a> Model for ForestPool<'a> {
@@ -33,41 +41,30 @@ impl<'a> Model for ForestPool<'a> {
 
     ghost Value = { List (List ℕ) };
 
-    ghost view = { λ p. forests_of p.forests.items };
+    ghost view = { λ p. forests_of p.forests.keys };
 
-    ghost invariant = { λ p. AreDistinct (forests_of p.forests.items) };
-}
-
-/// Whether a forest has these trees.
-fn has_trees(f: &Forest<'_>, trees: &[TreeId]) -> bool
-    ensures { IsTrue result ↔ (numbers_of f.now ≡ numbers trees.now) }
-{
-    f.trees == trees
+    ghost invariant = { λ p. AreDistinct (forests_of p.forests.keys) };
 }
 
 /// The place of the forest with these trees.
-fn forest_position(forests: &[Forest<'_>], trees: &[TreeId]) -> Option<usize>
-    ensures { MatchOption result (LacksForest (forests_of forests.now) (numbers trees.now)) (λ i. slice_get (forests_of forests.now) i ≡ Some (numbers trees.now)) }
+fn forest_position(forests: &IndexSet<Forest<'_>>, trees: &[TreeId]) -> Option<usize>
+    ensures { MatchOption result (LacksForest (forests_of forests.now.keys) (numbers trees.now)) (λ i. slice_get (forests_of forests.now.keys) i ≡ Some (numbers trees.now)) }
 {
-    for i in 0..forests.len() {
-        if has_trees(&forests[i], trees) {
-            return Some(i);
-        }
-    }
-    None
+    forests.get_index_of(&Forest { trees })
 }
 
-/// Puts a forest at the end of the list, its trees in the arena.
+/// Puts a forest that is not there behind the others, its trees in the arena.
 fn push_forest<'a>(
-    forests: &mut Vec<Forest<'a>>,
+    forests: &mut IndexSet<Forest<'a>>,
     arena: &'a Bump,
     trees: &[TreeId],
 ) -> Result<(), AllocError>
-    ensures ok { OnOk result (forests_of forests.new.items ≡ forests_of forests.old.items ++ numbers trees.now ∷ []) }
-    ensures err { OnErr result (forests.new.items ≡ forests.old.items) }
+    requires { LacksForest (forests_of forests.old.keys) (numbers trees.now) }
+    ensures forests { OnOk result (forests_of forests.new.keys ≡ forests_of forests.old.keys ++ numbers trees.now ∷ []) }
+    ensures unchanged { OnErr result (forests.new.keys ≡ forests.old.keys) }
 {
     let trees = &*arena.try_alloc_slice_copy(trees)?;
-    forests.push(Forest { trees })?;
+    forests.insert(Forest { trees })?;
     Ok(())
 }
 
@@ -88,8 +85,15 @@ impl<'a> ForestPool<'a> {
     {
         Ok(ForestPool {
             arena,
-            forests: Vec::new(alloc),
+            forests: IndexSet::new(alloc),
         })
+    }
+
+    /// The number of forests. Takes no memory.
+    pub fn len(&self) -> usize
+        ensures { result ≡ length self.now }
+    {
+        self.forests.len()
     }
 
     /// The trees of a forest, in tree order. Takes no memory. The list stays readable as long as the arena, also while the forest pool grows.
@@ -127,7 +131,7 @@ impl<'a> ForestPool<'a> {
         ensures grown { OnOk result (IsGrownWith self.old self.new (numbers trees.now)) }
         ensures unchanged { OnErr result (self.new ≡ self.old) }
     {
-        if let Some(i) = forest_position(self.forests.as_slice(), trees) {
+        if let Some(i) = forest_position(&self.forests, trees) {
             return Ok(ForestId(i));
         }
         let id = self.forests.len();

@@ -4,6 +4,7 @@
 mod degree;
 mod error;
 mod forest;
+mod forest_order;
 mod laws;
 mod lists;
 mod made;
@@ -16,6 +17,6 @@ mod sort;
 
 pub use error::PoolError;
 pub use forest::{ForestId, ForestPool};
-pub use laws::{fit_laws, forest_laws, product_laws};
+pub use laws::{fit_laws, forest_laws, order_laws, product_laws};
 pub use node::{EdgeTo, TreeId};
 pub use pool::Pool;

@@ -5,7 +5,7 @@ ghost use Rattle.plain_trees.specs.View.{plain};
 ghost use Rattle.plain_trees.specs.Canon.{canon};
 ghost use Rattle.plain_trees.specs.Degree.{HasTypes, IsEdge};
 ghost use Rattle.tree_pool.specs.Content.{Holds, tree_at, IsGrown, IsGrownBy};
-ghost use Rattle.tree_pool.specs.Joined.{joined, planted_by};
+ghost use Rattle.plain_trees.specs.Joined.{joined, planted_by};
 
 use crate::error::PoolError;
 use crate::lists::appended;

@@ -33,8 +33,7 @@ impl<'a> Pool<'a> {
         requires { id.0 < length self.now.trees }
         ensures { result ≡ measure self.now.types (tree_at self.now id.0) }
     {
-        let node = self.nodes[id.0];
-        node.measures
+        self.measures[id.0]
     }
 
     /// The measures of the tree with this decoration and these edges at its root.

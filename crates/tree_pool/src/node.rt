@@ -1,13 +1,14 @@
-// The nodes of a pool, in a list that is walked. What stands in this list is looked up and added here alone.
-ghost use Rattle.std.specs.Prelude.{◌≡◌, ◌++◌, ◌∷◌, [], IsTrue, ◌↔◌, OnOk, OnErr, MatchOption};
-ghost use Rattle.tree_pool.specs.Nodes.{shapes, shape_of, measures_of, HasShape, LacksShape, IsShapeAt, GainsShape};
+// The nodes of a pool, in a hashed set whose positions are their numbers, and the list of their measures. Both are looked up and added to here alone.
+ghost use Rattle.std.specs.Prelude.{◌≡◌, ◌++◌, ◌∷◌, [], OnOk, OnErr, MatchOption};
+ghost use Rattle.tree_pool.specs.Nodes.{shapes, LacksShape, IsShapeAt, GainsShape};
 
 use bumpalo::Bump;
 use degree_numbers::{Degree, Multi, TypeId};
+use indexmap::IndexSet;
 use std::alloc::AllocError;
 
-/// The number of a tree: its position in its pool.
-#[derive(Clone, Copy, Debug, PartialEq, Eq, Hash)]
+/// The number of a tree: its position in its pool. The order of numbers is that in which their trees came into the pool, and not tree order.
+#[derive(Clone, Copy, Debug, PartialEq, Eq, PartialOrd, Ord, Hash)]
 pub struct TreeId(pub usize);
 
 /// An edge of a node of a pool: its type, its derivative decoration and the number of the tree above it.
@@ -26,47 +27,37 @@ pub struct Measures {
     pub decorations: u32,
 }
 
-/// The root of a tree: its decoration, and its edges in edge order. With it the measures of the whole tree.
-#[derive(Clone, Copy, Debug, PartialEq, Eq)]
+/// The root of a tree: its decoration, and its edges in edge order. Two are equal where both are the same, wherever the edges stand in memory.
+#[derive(Clone, Copy, PartialEq, Eq, Hash)]
 pub struct Node<'a> {
     pub n: Multi,
     pub edges: &'a [EdgeTo],
-    pub measures: Measures,
-}
-
-/// Whether a node has this decoration and these edges.
-fn has_shape(x: &Node<'_>, n: &Multi, edges: &[EdgeTo]) -> bool
-    ensures { IsTrue result ↔ HasShape (shape_of x.now) n.now.entries edges.now }
-{
-    x.n == *n && x.edges == edges
 }
 
 /// The place of the node with this decoration and these edges.
-pub fn position(nodes: &[Node<'_>], n: &Multi, edges: &[EdgeTo]) -> Option<usize>
-    ensures { MatchOption result (LacksShape (shapes nodes.now) n.now.entries edges.now) (λ i. IsShapeAt (shapes nodes.now) i n.now.entries edges.now) }
+pub fn position(nodes: &IndexSet<Node<'_>>, n: &Multi, edges: &[EdgeTo]) -> Option<usize>
+    ensures { MatchOption result (LacksShape (shapes nodes.now.keys) n.now.entries edges.now) (λ i. IsShapeAt (shapes nodes.now.keys) i n.now.entries edges.now) }
 {
-    for i in 0..nodes.len() {
-        if has_shape(&nodes[i], n, edges) {
-            return Some(i);
-        }
-    }
-    None
+    nodes.get_index_of(&Node { n: *n, edges })
 }
 
-/// Puts a node at the end of the list, its edges in the arena.
-#[tactic(auto, using(crate::proofs::Nodes::shapes_push, crate::proofs::Nodes::measures_push))]
+/// Puts a node that is not there behind the others, its edges in the arena, and its measures behind theirs. All memory is taken before anything is added.
 pub fn push_node<'a>(
-    nodes: &mut Vec<Node<'a>>,
+    nodes: &mut IndexSet<Node<'a>>,
+    measures: &mut Vec<Measures>,
     arena: &'a Bump,
     n: Multi,
     edges: &[EdgeTo],
-    measures: Measures,
+    measure: Measures,
 ) -> Result<(), AllocError>
-    ensures ok { OnOk result (GainsShape (shapes nodes.old.items) (shapes nodes.new.items) n.entries edges.now) }
-    ensures measures { OnOk result (measures_of nodes.new.items ≡ measures_of nodes.old.items ++ measures ∷ []) }
-    ensures err { OnErr result (nodes.new.items ≡ nodes.old.items) }
+    requires { LacksShape (shapes nodes.old.keys) n.entries edges.now }
+    ensures nodes { OnOk result (GainsShape (shapes nodes.old.keys) (shapes nodes.new.keys) n.entries edges.now) }
+    ensures measures { OnOk result (measures.new.items ≡ measures.old.items ++ measure ∷ []) }
+    ensures unchanged { OnErr result ((nodes.new.keys ≡ nodes.old.keys) × (measures.new.items ≡ measures.old.items)) }
 {
     let edges = &*arena.try_alloc_slice_copy(edges)?;
-    nodes.push(Node { n, edges, measures })?;
+    measures.reserve(1)?;
+    nodes.insert(Node { n, edges })?;
+    measures.push_reserved(measure);
     Ok(())
 }

@@ -20,13 +20,16 @@ impl<'a> Pool<'a> {
         }
     }
 
-    /// Tree order of two trees.
+    /// Tree order of two trees. A tree that both trees share is not walked.
     #[cycle(tree_order)]
     fn tree_order(&self, a: TreeId, b: TreeId) -> Ordering
         requires known_a { a.0 < length self.now.trees }
         requires known_b { b.0 < length self.now.trees }
         ensures { result ≡ tree_order (tree_at self.now a.0) (tree_at self.now b.0) }
     {
+        if a.0 == b.0 {
+            return Ordering::Equal;
+        }
         match self.edge_count(a).cmp(&self.edge_count(b)) {
             Ordering::Equal => {}
             other => return other,

@@ -7,33 +7,46 @@ ghost use Rattle.plain_trees.specs.Degree.{HasTypes};
 ghost use Rattle.plain_trees.specs.Plain.{IsSmall};
 
 use crate::error::PoolError;
-use crate::node::{EdgeTo, Node, TreeId, position, push_node};
+use crate::node::{EdgeTo, Measures, Node, TreeId, position, push_node};
 use crate::sort::sorted_edges;
 use bumpalo::Bump;
 use degree_numbers::{Multi, Types};
+use indexmap::IndexSet;
 use sqlite_items::Items;
 use std::alloc::{AllocError, Global};
 use std::marker::Model;
 
-/// Trees by number, each once. Contracts see the types that it was made with and the list of its trees.
+/// Trees by number, each once. Contracts see the types that the pool was made with and the list of its trees.
+///
+/// **Order.** Numbers are given from 0 on as trees come in, and stay while the pool grows, so a number is also an index into tables beside the pool. Numbers are
+/// equal exactly where trees are. They are not in tree order: `order` is.
+///
+/// **Units.** Degrees are in units of one over the common denominator of the types; decorations are multiindices by direction.
+///
+/// **Invariants.** Each tree is canonical, so the edges of each node are in edge order; it is of the pool's types, with at most 24 edges and a decoration sum of at
+/// most 4096. The trees above the edges of a root have smaller numbers than the root's. The degree, number of edges and decoration sum that are kept are right.
+///
+/// **Example.** Where `[]`, `[xi]` and `[u'(0,1)[xi]]` have the numbers 0, 1 and 2 and no other tree is there, `product` of 2 and 1 answers 3, the number of
+/// `[xi*u'(0,1)[xi]]`, and so does from then on `intern_node` with its two edges in either order.
 #[derive(Drop)]
 pub struct Pool<'a> {
     types: Types,
     arena: &'a Bump,
-    pub(crate) nodes: Vec<Node<'a>>,
+    nodes: IndexSet<Node<'a>>,
+    pub(crate) measures: Vec<Measures>,
 }
 
 impl<'a> Model for Pool<'a> {
     ghost use Rattle.tree_pool.specs.Content.{Content, content_code};
-    ghost use Rattle.tree_pool.specs.Nodes.{trees_of, shapes, AreMeasuredNodes};
+    ghost use Rattle.tree_pool.specs.Nodes.{made_trees, shapes, AreMeasuredNodes};
 
     ghost Value = { Content };
 
     ghost coded = { content_code };
 
-    ghost view = { λ p. record { types = p.types; trees = trees_of (shapes p.nodes.items) } };
+    ghost view = { λ p. record { types = p.types; trees = made_trees (shapes p.nodes.keys) } };
 
-    ghost invariant = { λ p. AreMeasuredNodes p.types p.nodes.items };
+    ghost invariant = { λ p. AreMeasuredNodes p.types p.nodes.keys p.measures.items };
 }
 
 /// A copy of types. Fails only for want of memory.
@@ -46,6 +59,7 @@ fn copy_types(alloc: Global, types: &Types) -> Result<Types, AllocError>
         units: types.units,
         list: Items::from_slice(alloc, types.list.as_slice())?,
         groups: Items::from_slice(alloc, types.groups.as_slice())?,
+        reflect: Items::from_slice(alloc, types.reflect.as_slice())?,
     })
 }
 
@@ -60,7 +74,8 @@ impl<'a> Pool<'a> {
         Ok(Pool {
             types,
             arena,
-            nodes: Vec::new(alloc),
+            nodes: IndexSet::new(alloc),
+            measures: Vec::new(alloc),
         })
     }
 
@@ -128,12 +143,19 @@ impl<'a> Pool<'a> {
         ensures grown { OnOk result (IsGrownBy self.old self.new (tree_over self.old.trees n.entries edges.now)) }
         ensures unchanged { OnErr result (self.new ≡ self.old) }
     {
-        if let Some(i) = position(self.nodes.as_slice(), &n, edges) {
+        if let Some(i) = position(&self.nodes, &n, edges) {
             return Ok(TreeId(i));
         }
         let measures = self.measures_over(&n, edges);
         let id = self.nodes.len();
-        push_node(&mut self.nodes, self.arena, n, edges, measures)?;
+        push_node(
+            &mut self.nodes,
+            &mut self.measures,
+            self.arena,
+            n,
+            edges,
+            measures,
+        )?;
         Ok(TreeId(id))
     }
 }

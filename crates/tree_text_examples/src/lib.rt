@@ -53,6 +53,7 @@ mod tests {
             (b"[X(01,0)*xi]", NotCanonical),
             (b"[xi'(0,0)]", NotCanonical),
             (b"[u[]*xi]", NotCanonical),
+            (b"[u[xi]*xi]", NotCanonical),
             (b"[u[u[xi]]*u[X(5,0)*xi]]", NotCanonical),
         ];
         let types = kpz_types(rt.alloc()).expect(&rt, "types");

@@ -1,6 +1,7 @@
 -- Tests of types, and what they decide.
 use Rattle.std.proofs.Common.{◌≡◌, ◌≢◌, ℕ, zero, suc, ◌+◌, ◌-◌, ◌*◌, ◌/◌, ◌<◌, ◌≤◌, Bool, true, false, not, nat_lt, nat_le, List, [], ◌∷◌, length, take, drop, get_or, ℤ, unsigned_abs, arith, refl, ap, sym, subst, ◌∙◌, add-one, length-drop}
-use Rattle.std.specs.Prelude.{◌==◌, ◌&&◌, ◌↔◌, IsTrue}
+use Rattle.std.specs.Prelude.{◌==◌, ◌&&◌, ◌↔◌, IsTrue, Option, Some, None}
+use Rattle.std.specs.Option.{is_some}
 use Rattle.std.specs.List.{AllByRecursion, list_all}
 use Rattle.std.proofs.Math.Nat.{div-mul_cancel, mul-div_cancel, dvd-mul_right}
 use Rattle.std.proofs.lemmas.Bool.{and_parts, and_from, not-true, leb-true, le-leb, ltb-true, lt-ltb, true≢false}
@@ -11,7 +12,7 @@ use Rattle.std.proofs.Math.Seq.{take-length}
 use Rattle.std.proofs.lemmas.Nat.Gcd.{dvd_antisymm, dvd_refl}
 use Rattle.text_parts.specs.Reading.{most}
 use Rattle.degree_numbers.specs.Fraction.{IsLowest, IsCommon, IsLeastCommon}
-use Rattle.degree_numbers.specs.Types.{IsScaling, IsWritable, AreDifferent}
+use Rattle.degree_numbers.specs.Types.{IsScaling, IsWritable, AreDirections, AreDifferent}
 use Rattle.type_contexts.specs.Different.{begins_new}
 use Rattle.degree_numbers.proofs.InUnits.{lowest_exists}
 use Rattle.degree_numbers.proofs.LowestTerms.{whole_to, whole_from, cancelled}
@@ -134,3 +135,14 @@ different_more names i test told =
 
 pub not_different : (names : List (List ℕ)) (i : ℕ) → begins_new (take (length names - i) (drop i names)) ≡ false → AreDifferent names ↔ AreDifferent (drop i names) → AreDifferent names → ⊥
 not_different names i test told h = true≢false (sym (begins_different (drop i names) (told.0 h)) ∙ ap begins_new (sym (whole_rest names i)) ∙ test)
+
+-- what is not there
+pub none_of : (m : Option ℕ) → is_some m ≡ false → m ≡ None
+none_of None h = refl
+none_of (Some r) h = absurd (true≢false h)
+
+-- a direction among others
+pub directions_at : (past dims : ℕ) (xs : List ℕ) (i : ℕ) → i < length xs → AreDirections past dims (drop i xs) → (past < get_or xs i 0) × (get_or xs i 0 ≤ dims)
+directions_at past dims [] i lt h = absurd (omega (arith, lt))
+directions_at past dims (x ∷ xs) zero lt h = (h.0, h.1)
+directions_at past dims (x ∷ xs) (suc i) lt h = directions_at past dims xs i (omega (arith, lt)) h

@@ -1,5 +1,5 @@
 -- What the types of a file are, one type after the other.
-use Rattle.std.proofs.Common.{◌≡◌, ℕ, zero, suc, ◌+◌, ◌<◌, ◌≤◌, true, ℤ, pos, unsigned_abs, List, [], ◌∷◌, length, map, take, drop, arith, sym, subst}
+use Rattle.std.proofs.Common.{◌≡◌, ℕ, zero, suc, ◌+◌, ◌<◌, ◌≤◌, true, ℤ, pos, unsigned_abs, List, [], ◌∷◌, length, map, take, drop, None, arith, sym, ap, subst, ◌∙◌}
 use Rattle.std.proofs.Math.Logic.{inl, inr}
 use Rattle.std.specs.List.{AllByRecursion}
 use Rattle.degree_numbers.specs.declared.types.Kind.{Kind}
@@ -8,10 +8,11 @@ use Rattle.degree_numbers.specs.declared.types.TypeEntry.{TypeEntry}
 use Rattle.degree_numbers.specs.declared.types.Types.{Types}
 use Rattle.degree_numbers.specs.Fraction.{IsFractionInRange}
 use Rattle.degree_numbers.specs.Name.{is_name}
-use Rattle.degree_numbers.specs.Types.{noise_count, noises, kernels, IsNoiseEntry, IsKernelEntry, AreInOrder, AreTypes}
+use Rattle.degree_numbers.specs.Types.{noise_count, noises, kernels, IsMoments, IsNoiseEntry, IsKernelEntry, AreInOrder, AreTypes}
 use Rattle.degree_numbers.proofs.InUnits.{lowest_exists}
 use Rattle.degree_numbers.proofs.TypeBounds.{all_weaker, all_from_parts, den_small}
-use Rattle.type_contexts.proofs.DraftsRead.{group_by, IsReadable}
+use Rattle.type_contexts.proofs.DraftsRead.{group_by, moments_by, IsReadable}
+use Rattle.type_contexts.specs.Context.{moments_text}
 use Rattle.type_contexts.proofs.Groups.{IsOrdered, ordered, IsNumber, IsNumbered, named_at}
 use Rattle.type_contexts.proofs.SameNumbers.{size_above}
 
@@ -78,12 +79,31 @@ types_ranged ty h =
     (all_weaker (IsNoiseEntry den) (IsRanged den) (noises ty) (λ e n. record { a = n.a.written; b = n.b.written }) h.of_noises)
     (all_weaker (IsKernelEntry den) (IsRanged den) (kernels ty) (λ e k. record { a = k.a.written; b = zero_in_range den e.degree.b above (den_small ty h) k.without_k }) h.of_kernels)
 
+-- the moment number of a type is read of its text
+record HasMoments (e : TypeEntry) : Type 0 where
+  small : IsMoments e.moments
+  text : moments_by e.kind e ≡ moments_text e.moments
+
+noise_moments : (e : TypeEntry) → e.kind ≡ Noise → e.moments ≡ None → HasMoments e
+noise_moments e kind none = record { small = subst IsMoments (sym none) tt; text = ap (λ k. moments_by k e) kind ∙ ap moments_text (sym none) }
+
+kernel_moments : (e : TypeEntry) → e.kind ≡ Kernel → IsMoments e.moments → HasMoments e
+kernel_moments e kind small = record { small = small; text = ap (λ k. moments_by k e) kind }
+
+types_moments : (ty : Types) → AreTypes ty → AllByRecursion HasMoments ty.list
+types_moments ty h =
+    let den = unsigned_abs ty.units.den in
+    all_from_parts HasMoments (noise_count ty) ty.list
+    (all_weaker (IsNoiseEntry den) HasMoments (noises ty) (λ e n. noise_moments e n.kind n.moments) h.of_noises)
+    (all_weaker (IsKernelEntry den) HasMoments (kernels ty) (λ e k. kernel_moments e k.kind k.moments) h.of_kernels)
+
 -- the words of each type are read
 pub types_readable : (ty : Types) → AreTypes ty → AllByRecursion (IsReadable (unsigned_abs ty.units.den) ty.groups) ty.list
 types_readable ty h =
     let den = unsigned_abs ty.units.den in
-    both (IsRanged den) (λ e. (is_name e.name ≡ true) × IsNumbered (length ty.groups) e) (IsReadable den ty.groups) ty.list
-    (λ e r p. record { name = p.0; group = group_named ty.groups e e.kind h.groups.are_names p.0 p.1; a = r.a; b = r.b }) (types_ranged ty h)
+    both (λ e. IsRanged den e × HasMoments e) (λ e. (is_name e.name ≡ true) × IsNumbered (length ty.groups) e) (IsReadable den ty.groups) ty.list
+    (λ e r p. record { name = p.0; group = group_named ty.groups e e.kind h.groups.are_names p.0 p.1; a = r.0.a; b = r.0.b; moments = r.1.small; moments_are = r.1.text })
+    (both (IsRanged den) HasMoments (λ e. IsRanged den e × HasMoments e) ty.list (λ e r m. (r, m)) (types_ranged ty h) (types_moments ty h))
     (both (λ e. is_name e.name ≡ true) (IsNumbered (length ty.groups)) (λ e. (is_name e.name ≡ true) × IsNumbered (length ty.groups) e) ty.list (λ e n g. (n, g))
     (unmapped (λ name. is_name name ≡ true) (λ e. e.name) ty.list h.names.are_names) (types_numbered ty h))
 

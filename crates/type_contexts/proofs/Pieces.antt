@@ -1,13 +1,24 @@
 -- Texts put together from pieces.
-use Rattle.std.proofs.Common.{◌≡◌, ℕ, zero, suc, ◌+◌, ◌<◌, List, [], ◌∷◌, ◌++◌, map, take, get_or, length, decimal, append_assoc, arith, ap, sym, subst, ◌∙◌}
+use Rattle.std.proofs.Common.{◌≡◌, ℕ, zero, suc, ◌+◌, ◌<◌, List, [], ◌∷◌, ◌++◌, map, take, get_or, length, decimal, append_assoc, arith, refl, ap, sym, subst, ◌∙◌}
 use Rattle.std.specs.List.{AllByRecursion, AllZip, join_with_byte}
 use Rattle.std.proofs.lemmas.List.{take_more, map_push}
 
 pub noise_pieces : (o name t g : List ℕ) → (((((o ++ (110 ∷ 111 ∷ 105 ∷ 115 ∷ 101 ∷ 32 ∷ [])) ++ name) ++ 32 ∷ []) ++ t) ++ 32 ∷ []) ++ g ≡ o ++ join_with_byte 32 ((110 ∷ 111 ∷ 105 ∷ 115 ∷ 101 ∷ []) ∷ name ∷ t ∷ g ∷ [])
 noise_pieces o name t g = simp append_assoc
 
-pub kernel_pieces : (o name t : List ℕ) → ((o ++ (107 ∷ 101 ∷ 114 ∷ 110 ∷ 101 ∷ 108 ∷ 32 ∷ [])) ++ name) ++ 32 ∷ [] ++ t ≡ o ++ join_with_byte 32 ((107 ∷ 101 ∷ 114 ∷ 110 ∷ 101 ∷ 108 ∷ []) ∷ name ∷ t ∷ [])
-kernel_pieces o name t = simp append_assoc
+pub kernel_pieces : (o name t : List ℕ) (ws : List (List ℕ)) → join_with_byte 32 (((((o ++ (107 ∷ 101 ∷ 114 ∷ 110 ∷ 101 ∷ 108 ∷ 32 ∷ [])) ++ name) ++ 32 ∷ []) ++ t) ∷ ws) ≡ o ++ join_with_byte 32 ((107 ∷ 101 ∷ 114 ∷ 110 ∷ 101 ∷ 108 ∷ []) ∷ name ∷ t ∷ ws)
+kernel_pieces o name t [] = simp append_assoc
+kernel_pieces o name t (w ∷ ws) = simp append_assoc
+
+joined_more : (c : ℕ) (x : List ℕ) (xs ys : List (List ℕ)) → join_with_byte c (x ∷ (xs ++ ys)) ≡ join_with_byte c (join_with_byte c (x ∷ xs) ∷ ys)
+joined_more c x [] ys = refl
+joined_more c x (y ∷ xs) [] = ap (λ t. x ++ c ∷ t) (joined_more c y xs [])
+joined_more c x (y ∷ xs) (z ∷ ys) = ap (λ t. x ++ c ∷ t) (joined_more c y xs (z ∷ ys)) ∙ sym (append_assoc x (c ∷ join_with_byte c (y ∷ xs)) (c ∷ join_with_byte c (z ∷ ys)))
+
+-- pieces in three parts
+pub three_parts : (c : ℕ) (x : List ℕ) (xs ys zs : List (List ℕ)) → join_with_byte c (join_with_byte c (join_with_byte c (x ∷ xs) ∷ ys) ∷ zs) ≡ join_with_byte c (x ∷ (xs ++ (ys ++ zs)))
+three_parts c x xs ys zs =
+    ap (λ t. join_with_byte c (t ∷ zs)) (sym (joined_more c x xs ys)) ∙ sym (joined_more c x (xs ++ ys) zs) ∙ ap (λ ps. join_with_byte c (x ∷ ps)) (append_assoc xs ys zs)
 
 join-push : (c : ℕ) (first : List ℕ) (pieces : List (List ℕ)) (piece : List ℕ) → join_with_byte c (first ∷ (pieces ++ piece ∷ [])) ≡ (join_with_byte c (first ∷ pieces) ++ c ∷ []) ++ piece
 join-push c first [] piece = sym (append_assoc first (c ∷ []) piece)

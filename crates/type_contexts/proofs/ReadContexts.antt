@@ -1,8 +1,8 @@
 -- Contexts, read.
-use Rattle.std.proofs.Common.{◌≡◌, ℕ, ◌+◌, ◌-◌, ◌<◌, ◌≤◌, List, [], ◌∷◌, length, map, take, drop, get_or, unsigned_abs, arith, refl, ap, sym, subst, ◌∙◌}
-use Rattle.std.specs.Prelude.{Result, Ok, Err, IfErr}
-use Rattle.std.specs.List.{AllByRecursion, AllZip}
-use Rattle.std.proofs.lemmas.List.{length-map, length-take}
+use Rattle.std.proofs.Common.{◌≡◌, ℕ, ◌+◌, ◌-◌, ◌<◌, ◌≤◌, List, [], ◌∷◌, length, map, unsigned_abs, arith, refl, ap, sym, subst, ◌∙◌}
+use Rattle.std.specs.Prelude.{◌==◌, Option, Some, None, Result, Ok, Err, IfErr}
+use Rattle.std.specs.List.{AllByRecursion, AllZip, slice_split}
+use Rattle.std.proofs.lemmas.List.{length-map}
 use Rattle.std.proofs.lemmas.Slice.Zip.{AllZip-long}
 use Rattle.degree_numbers.specs.declared.types.Types.{Types}
 use Rattle.degree_numbers.specs.Types.{AreTypes}
@@ -10,52 +10,57 @@ use Rattle.degree_numbers.proofs.TypeBounds.{type_count_most}
 use Rattle.type_contexts.specs.declared.draft.Draft.{Draft}
 use Rattle.type_contexts.specs.declared.refusal.ContextRefusal.{ContextRefusal}
 use Rattle.type_contexts.specs.declared.refusal.ContextRefusal.TheVariants.{ContextText, Memory}
-use Rattle.type_contexts.specs.Context.{IsEntryText, scaling_text, ArePieces}
+use Rattle.type_contexts.specs.declared.form.Form.{Form}
+use Rattle.type_contexts.specs.Context.{IsEntryText, scaling_text, reflect_text, IsTextIn}
+use Rattle.type_contexts.specs.Parts.{Parts, parts_in, ArePartsOf}
 use Rattle.type_contexts.specs.Draft.{IsGoodPiece, IsPieceDraft}
 use Rattle.type_contexts.proofs.DraftsRead.{IsEntryDraft, good_pieces, entry_drafts}
 use Rattle.type_contexts.proofs.FileTypes.{types_readable}
 use Rattle.type_contexts.proofs.Pieces.{zip_map}
+use Rattle.type_contexts.proofs.Remade.{context_parts}
 use Rattle.type_contexts.proofs.SameNumbers.{size_above}
-use Rattle.type_contexts.proofs.Decided.{whole_rest}
 
 pub memory_else : (e : ContextRefusal) → (e ≡ ContextText → ⊥) → e ≡ Memory
 memory_else ContextText other = absurd (other refl)
 memory_else Memory other = refl
 
--- there are as many pieces as types, and one more
-pub pieces_few : {A : Type 0} (f : A → List ℕ) (ty : Types) (pieces : List A) → AreTypes ty → ArePieces ty (map f pieces) → (0 < length pieces) × (length pieces ≤ 17)
-pieces_few f ty pieces types h =
-    let long : length pieces ≡ length h.0 + 1 = sym (length-map pieces f) ∙ ap length h.2 ∙ omega arith in
-    let same : length h.0 ≡ length ty.list = AllZip-long (IsEntryText (unsigned_abs ty.units.den) ty.groups) ty.list h.0 h.1 in
-    let most = type_count_most ty types in
-    (omega (arith, long), omega (arith, long, same, most))
+-- there are as many entries as types
+pub entries_few : {A : Type 0} (f : A → List ℕ) (form : Form) (ty : Types) (entries : List A) → AreTypes ty → AllZip (IsEntryText form (unsigned_abs ty.units.den) ty.groups) ty.list (map f entries) → length entries ≤ 16
+entries_few f form ty entries types h =
+    let same : length (map f entries) ≡ length ty.list = AllZip-long (IsEntryText form (unsigned_abs ty.units.den) ty.groups) ty.list (map f entries) h in
+    omega (arith, length-map entries f, same, type_count_most ty types)
 
-rest_of : {A : Type 0} (f : A → List ℕ) (pieces : List A) (first : List ℕ) (others : List (List ℕ)) → map f pieces ≡ first ∷ others → map f (drop 1 pieces) ≡ others
-rest_of f [] first others h = absurd cc
-rest_of f (p ∷ pieces) first others h = cc
+pub entries_good : {A : Type 0} (f : A → List ℕ) (form : Form) (ty : Types) (entries : List A) → AreTypes ty → AllZip (IsEntryText form (unsigned_abs ty.units.den) ty.groups) ty.list (map f entries) → AllByRecursion IsGoodPiece (map f entries)
+entries_good f form ty entries types h = good_pieces form (unsigned_abs ty.units.den) ty.groups ty.list (map f entries) (size_above ty.units.den types.den_above) (types_readable ty types) h
 
-pub first_of : {A : Type 0} (f : A → List ℕ) (pieces : List A) (first : List ℕ) (others : List (List ℕ)) (d : A) → map f pieces ≡ first ∷ others → f (get_or pieces 0 d) ≡ first
-first_of f [] first others d h = absurd cc
-first_of f (p ∷ pieces) first others d h = cc
+pub entries_drafts : {A : Type 0} (f : A → List ℕ) (form : Form) (ty : Types) (entries : List A) (drafts : List Draft) → AreTypes ty → AllZip (IsEntryText form (unsigned_abs ty.units.den) ty.groups) ty.list (map f entries) → AllZip (λ s d. IsPieceDraft (f s) d) entries drafts → AllZip (IsEntryDraft (unsigned_abs ty.units.den) ty.groups) ty.list drafts
+entries_drafts f form ty entries drafts types h k =
+    entry_drafts form (unsigned_abs ty.units.den) ty.groups ty.list (map f entries) drafts (size_above ty.units.den types.den_above) (types_readable ty types) h (zip_map IsPieceDraft f entries drafts k)
 
--- the pieces behind the first
-rest_is : {A : Type 0} (f : A → List ℕ) (pieces : List A) (first : List ℕ) (others : List (List ℕ)) → map f pieces ≡ first ∷ others → map f (take (length pieces - 1) (drop 1 pieces)) ≡ others
-rest_is f pieces first others h = ap (map f) (whole_rest pieces 1) ∙ rest_of f pieces first others h
+pub drafts_few : {A : Type 0} (R : A → Draft → Type 0) (entries : List A) (drafts : List Draft) → length entries ≤ 16 → AllZip R entries drafts → length drafts ≤ 255
+drafts_few R entries drafts few h =
+    let long : length drafts ≡ length entries = AllZip-long R entries drafts h in
+    omega (arith, long, few)
 
-pub rest_good : {A : Type 0} (f : A → List ℕ) (ty : Types) (pieces : List A) → AreTypes ty → ArePieces ty (map f pieces) → AllByRecursion IsGoodPiece (map f (take (length pieces - 1) (drop 1 pieces)))
-rest_good f ty pieces types h =
-    subst (AllByRecursion IsGoodPiece) (sym (rest_is f pieces (scaling_text ty) h.0 h.2))
-    (good_pieces (unsigned_abs ty.units.den) ty.groups ty.list h.0 (size_above ty.units.den types.den_above) (types_readable ty types) h.1)
+parts_are : (form : Form) (ty : Types) (p q : Parts) → q ≡ p → ArePartsOf form ty p → ArePartsOf form ty q
+parts_are form ty p q e h = subst (ArePartsOf form ty) (sym e) h
 
-pub rest_drafts : {A : Type 0} (f : A → List ℕ) (ty : Types) (pieces : List A) (drafts : List Draft) → AreTypes ty → ArePieces ty (map f pieces) → AllZip (λ s d. IsPieceDraft (f s) d) (take (length pieces - 1) (drop 1 pieces)) drafts → AllZip (IsEntryDraft (unsigned_abs ty.units.den) ty.groups) ty.list drafts
-rest_drafts f ty pieces drafts types h k =
-    entry_drafts (unsigned_abs ty.units.den) ty.groups ty.list h.0 drafts (size_above ty.units.den types.den_above) (types_readable ty types) h.1
-    (subst (λ ps. AllZip IsPieceDraft ps drafts) (rest_is f pieces (scaling_text ty) h.0 h.2) (zip_map IsPieceDraft f (take (length pieces - 1) (drop 1 pieces)) drafts k))
+some_parts : (p q : Parts) → ◌≡◌ {A = Option Parts} (Some p) (Some q) → p ≡ q
+some_parts p q e = cc
 
-pub drafts_few : {A : Type 0} (R : A → Draft → Type 0) (pieces : List A) (drafts : List Draft) → length pieces ≤ 17 → AllZip R (take (length pieces - 1) (drop 1 pieces)) drafts → length drafts ≤ 255
-drafts_few R pieces drafts few h =
-    let long : length drafts ≡ length (take (length pieces - 1) (drop 1 pieces)) = AllZip-long R (take (length pieces - 1) (drop 1 pieces)) drafts h in
-    omega (arith, long, length-take (length pieces - 1) (drop 1 pieces), few)
+-- what is found in the pieces of a context are its parts
+pub parts_said : (form : Form) (ty : Types) (text : List ℕ) (pieces : List (List ℕ)) (p : Parts) → AreTypes ty → IsTextIn form ty text → pieces ≡ slice_split (λ b. b == 124) text → Some p ≡ parts_in form pieces → ArePartsOf form ty p
+parts_said form ty text pieces p types told cut found =
+    parts_are form ty (record { scaling = scaling_text ty; reflect = reflect_text ty; entries = told.0 }) p
+    (some_parts p (record { scaling = scaling_text ty; reflect = reflect_text ty; entries = told.0 }) (found ∙ ap (parts_in form) cut ∙ context_parts form ty text types told))
+    (record { scaling = refl; reflect = refl; entries = told.1 })
+
+pub parts_none : (form : Form) (ty : Types) (text : List ℕ) (pieces : List (List ℕ)) → AreTypes ty → IsTextIn form ty text → pieces ≡ slice_split (λ b. b == 124) text → None ≡ parts_in form pieces → ⊥
+parts_none form ty text pieces types told cut found =
+    never (record { scaling = scaling_text ty; reflect = reflect_text ty; entries = told.0 }) (found ∙ ap (parts_in form) cut ∙ context_parts form ty text types told)
+  where
+    never : (p : Parts) → ◌≡◌ {A = Option Parts} None (Some p) → ⊥
+    never p e = absurd cc
 
 pub memory_or : {e : ContextRefusal} → e ≡ ContextText → e ≡ Memory → ⊥
 memory_or h k = let e : ContextText ≡ Memory = sym h ∙ k in cc

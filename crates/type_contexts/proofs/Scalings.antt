@@ -1,5 +1,5 @@
 -- Scalings, read of what is printed.
-use Rattle.std.proofs.Common.{◌≡◌, ℕ, zero, suc, ◌<◌, ◌≤◌, false, List, [], ◌∷◌, map, take, drop, length, get_or, decimal, arith, refl, ap, sym, ◌∙◌, Option, Some, None, append-nil}
+use Rattle.std.proofs.Common.{◌≡◌, ℕ, zero, suc, ◌^◌, ◌<◌, ◌≤◌, false, List, [], ◌∷◌, map, take, drop, length, get_or, decimal, arith, refl, ap, sym, ◌∙◌, Option, Some, None, append-nil}
 use Rattle.std.specs.Prelude.{◌==◌, slice_index, codes}
 use Rattle.std.specs.Char.{is_ascii_digit}
 use Rattle.std.specs.List.{AllByRecursion, join_with_byte, slice_split}
@@ -13,8 +13,8 @@ use Rattle.type_contexts.specs.Scaling.{second_of}
 use Rattle.type_contexts.proofs.Bytes.{Lacks, lacks_join, lacks_decimal, split_join}
 use Rattle.degree_numbers.proofs.TypeBounds.{all_weaker}
 
-pub number_read : (part : List ℕ) (n : ℕ) → n ≤ 10 → part ≡ decimal n → number_at part ≡ Some (n, [])
-number_read part n le is = ap number_at (is ∙ sym (append-nil (decimal n))) ∙ number_back n [] (omega (arith, le)) tt
+pub number_read : (part : List ℕ) (n : ℕ) → n < 2 ^ 63 → part ≡ decimal n → number_at part ≡ Some (n, [])
+number_read part n le is = ap number_at (is ∙ sym (append-nil (decimal n))) ∙ number_back n [] le tt
 
 pub same_number : (x n : ℕ) (rest part : List ℕ) → Some (x, rest) ≡ number_at part → number_at part ≡ Some (n, []) → x ≡ n
 same_number x n rest part e f = ap front (e ∙ f)
@@ -24,11 +24,11 @@ same_number x n rest part e f = ap front (e ∙ f)
     front (Some r) = r.0
 
 -- the part at a place is the number there
-pub part_at : {A : Type 0} (f : A → List ℕ) (parts : List A) (entries : List ℕ) (i : ℕ) (d : A) → i < length parts → map f parts ≡ map decimal entries → AllByRecursion (λ n. n ≤ 10) entries → (f (get_or parts i d) ≡ decimal (slice_index entries i)) × (slice_index entries i ≤ 10)
-part_at f [] entries i d lt same few = absurd (omega (arith, lt))
-part_at f (p ∷ parts) [] i d lt same few = absurd cc
-part_at f (p ∷ parts) (e ∷ entries) zero d lt same few = let here : f p ≡ decimal e = cc in (here, few.0)
-part_at f (p ∷ parts) (e ∷ entries) (suc i) d lt same few = let there : map f parts ≡ map decimal entries = cc in part_at f parts entries i d (omega (arith, lt)) there few.1
+pub part_at : {A : Type 0} (f : A → List ℕ) (most : ℕ) (parts : List A) (entries : List ℕ) (i : ℕ) (d : A) → i < length parts → map f parts ≡ map decimal entries → AllByRecursion (λ n. n ≤ most) entries → (f (get_or parts i d) ≡ decimal (slice_index entries i)) × (slice_index entries i ≤ most)
+part_at f most [] entries i d lt same few = absurd (omega (arith, lt))
+part_at f most (p ∷ parts) [] i d lt same few = absurd cc
+part_at f most (p ∷ parts) (e ∷ entries) zero d lt same few = let here : f p ≡ decimal e = cc in (here, few.0)
+part_at f most (p ∷ parts) (e ∷ entries) (suc i) d lt same few = let there : map f parts ≡ map decimal entries = cc in part_at f most parts entries i d (omega (arith, lt)) there few.1
 
 zero_at : (s : List ℕ) (k : ℕ) → AllByRecursion (λ n. n ≡ 0) s → 0 ≡ slice_index s k
 zero_at [] k h = refl

@@ -4,7 +4,7 @@
 --   with_group groups d == the groups, and behind them the group of d where it is a noise's that is not there
 --   groups_of drafts == the groups, in the order of their first noise
 --   IsEntryOf den groups d e == e is the type that is read as d, in units of one over den
---   AreMadeOf dims scaling drafts ty == ty are the types that are read as drafts, with this scaling, in units of one over the least common denominator of the degrees
+--   AreMadeOf dims scaling reflect drafts ty == ty are the types that are read as drafts, with this scaling and these directions, in units of one over the least common denominator of the degrees
 use Rattle.std.specs.Prelude.{◌≡◌, ℕ, nat_lt, Bool, not, List, [], ◌∷◌, ◌++◌, length, if◌then◌else◌, fold, map, ℤ, ◌*ℤ◌}
 use Rattle.std.specs.List.{AllZip, prefix_len}
 use Rattle.std.specs.Str.{bytes_eq}
@@ -39,12 +39,14 @@ pub record IsEntryOf (den : ℤ) (groups : List (List ℕ)) (d : Draft) (e : Typ
   pub name : e.name ≡ d.name
   pub kind : e.kind ≡ d.kind
   pub group : e.group ≡ number_by d.kind groups d.group
+  pub moments : e.moments ≡ d.moments
   pub a : e.degree.a *ℤ d.degree.a_den ≡ d.degree.a_num *ℤ den
   pub b : e.degree.b *ℤ d.degree.b_den ≡ d.degree.b_num *ℤ den
 
-pub record AreMadeOf (dims : ℕ) (scaling : List ℕ) (drafts : List Draft) (ty : Types) : Type 0 where
+pub record AreMadeOf (dims : ℕ) (scaling reflect : List ℕ) (drafts : List Draft) (ty : Types) : Type 0 where
   pub dims_are : ty.dims ≡ dims
   pub scaling_is : ty.scaling ≡ scaling
+  pub reflect_is : ty.reflect ≡ reflect
   pub units : AreUnits (fractions (map (λ d. d.degree) drafts)) ty.units.den
   pub groups : ty.groups ≡ groups_of drafts
   pub list : AllZip (IsEntryOf ty.units.den ty.groups) drafts ty.list

@@ -20,6 +20,7 @@ pub record IsSameEntry (d e : ℕ) (s t : TypeEntry) : Type 0 where
   pub name : s.name ≡ t.name
   pub kind : s.kind ≡ t.kind
   pub group : s.group ≡ t.group
+  pub moments : s.moments ≡ t.moments
   pub a : IsSameFraction s.degree.a d t.degree.a e
   pub b : IsSameFraction s.degree.b d t.degree.b e
 
@@ -28,6 +29,7 @@ pub record AreSameTypes (s t : Types) : Type 0 where
   pub scaling : s.scaling ≡ t.scaling
   pub list : AllZip (IsSameEntry (unsigned_abs s.units.den) (unsigned_abs t.units.den)) s.list t.list
   pub groups : s.groups ≡ t.groups
+  pub reflect : s.reflect ≡ t.reflect
 
 abbrev pub degree_fractions : ℤ → List TypeEntry → List Fraction
 degree_fractions den [] = []

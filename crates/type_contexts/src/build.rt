@@ -82,6 +82,7 @@ fn entry_of(units: Units, groups: &[Name], draft: &Draft) -> TypeEntry
         kind: draft.kind,
         degree: in_units(&draft.degree, units),
         group: number_of(groups, draft),
+        moments: draft.moments,
     }
 }
 
@@ -105,16 +106,17 @@ fn entries_of(
     Ok(entries)
 }
 
-/// The types that are read, with this scaling, in units of one over the least common denominator of their degrees. Refusal: `ContextText` only where that passes
+/// The types that are read, with this scaling and these directions that may be reflected, in units of one over the least common denominator of their degrees. Refusal: `ContextText` only where that passes
 /// 1,000,000.
 pub fn types_of(
     alloc: Global,
     dims: u8,
     scaling: [u32; 5],
+    reflect: Items<u8>,
     drafts: &[Draft],
 ) -> Result<Types, ContextRefusal>
     requires { length drafts.now ≤ 255 }
-    ensures ok { IfOk result (λ ty. AreMadeOf dims scaling drafts.now ty) }
+    ensures ok { IfOk result (λ ty. AreMadeOf dims scaling reflect drafts.now ty) }
     ensures err { IfErr result (λ e. e ≡ ContextText → IsPast (fractions (map (λ d. d.degree) drafts.now))) }
 {
     let degrees = degrees_of(alloc, drafts)?;
@@ -129,5 +131,6 @@ pub fn types_of(
         units,
         list,
         groups,
+        reflect,
     })
 }

@@ -1,12 +1,17 @@
 // What is read of a type, before the common denominator is known.
-ghost use Rattle.std.specs.Prelude.{◌≡◌, ◌==◌, map, IfOk, IfErr, IfSome, IsSome, option_map};
+ghost use Rattle.std.specs.Prelude.{◌≡◌, ◌==◌, ℕ, Option, Some, map, IfOk, IfErr, IfSome, IsSome, option_map};
 ghost use Rattle.std.specs.List.{AllByRecursion, AllZip, slice_split};
 ghost use Rattle.type_contexts.specs.declared.refusal.ContextRefusal.TheVariants.{ContextText};
-ghost use Rattle.type_contexts.specs.Draft.{seen, words_of, IsGood, IsDraftOf, IsGoodPiece, IsPieceDraft};
+ghost use Rattle.degree_numbers.specs.Types.{IsMoments};
+ghost use Rattle.type_contexts.specs.Context.{moments_text};
+ghost use Rattle.type_contexts.specs.Draft.{seen, words_by_kind, words_of, IsGood, IsDraftOf, IsGoodPiece, IsPieceDraft};
 
 use crate::refusal::ContextRefusal;
+use crate::scaling::number_up_to;
 use degree_numbers::{Kind, Name, WrittenDegree, read_degree};
 use std::alloc::{AllocError, Global};
+
+const LARGEST_MOMENT: u32 = 20;
 
 /// The parts of a text between the places of a byte.
 pub fn parts_of(alloc: Global, mark: u8, text: &[u8]) -> Result<Vec<&[u8]>, AllocError>
@@ -15,13 +20,14 @@ pub fn parts_of(alloc: Global, mark: u8, text: &[u8]) -> Result<Vec<&[u8]>, Allo
     text.split(|b| *b == mark).collect(alloc)
 }
 
-/// The words that are written of a type. A kernel has no group, and its name stands there.
+/// The words that are written of a type. A kernel has no group, and its name stands there; `-` stands where no moment number is written.
 #[derive(Clone, Copy, Debug)]
 pub struct Words<'a> {
     pub kind: Kind,
     pub name: &'a [u8],
     pub degree: &'a [u8],
     pub group: &'a [u8],
+    pub moments: &'a [u8],
 }
 
 /// What is read of a type. A kernel has no group, and its name stands there.
@@ -31,26 +37,57 @@ pub struct Draft {
     pub name: Name,
     pub degree: WrittenDegree,
     pub group: Name,
+    pub moments: Option<u8>,
+}
+
+// The words of a noise with a group, or of a kernel with a moment number.
+fn words_by_kind<'a>(is_noise: bool, name: &'a [u8], degree: &'a [u8], last: &'a [u8]) -> Words<'a>
+    ensures { seen result ≡ words_by_kind is_noise name.now degree.now last.now }
+{
+    if is_noise {
+        Words {
+            kind: Kind::Noise,
+            name,
+            degree,
+            group: last,
+            moments: b"-",
+        }
+    } else {
+        Words {
+            kind: Kind::Kernel,
+            name,
+            degree,
+            group: name,
+            moments: last,
+        }
+    }
 }
 
 fn words_of<'a>(parts: &[&'a [u8]]) -> Option<Words<'a>>
     ensures { option_map seen result ≡ words_of (map (λ s. s.now) parts.now) }
 {
     match parts {
-        [_, name, degree, group] => Some(Words {
-            kind: Kind::Noise,
+        [_, name, degree] => Some(words_by_kind(false, name, degree, b"-")),
+        [word, name, degree, last] => Some(words_by_kind(
+            *word == b"noise".as_slice(),
             name,
             degree,
-            group,
-        }),
-        [_, name, degree] => Some(Words {
-            kind: Kind::Kernel,
-            name,
-            degree,
-            group: name,
-        }),
+            last,
+        )),
+        [_, name, degree, _, number] => Some(words_by_kind(false, name, degree, number)),
         _ => None,
     }
+}
+
+// The moment number that a text says, or that none is declared.
+fn moments_of(text: &[u8]) -> Option<Option<u8>>
+    ensures { (m : Option ℕ) → IsMoments m → text.now ≡ moments_text m → result ≡ Some m }
+{
+    if text == b"-".as_slice() {
+        return Some(None);
+    }
+    let moments = number_up_to(LARGEST_MOMENT, text)?;
+    Some(Some(moments as u8))
 }
 
 fn draft_of(words: &Words) -> Option<Draft>
@@ -60,11 +97,13 @@ fn draft_of(words: &Words) -> Option<Draft>
     let name = Name::new(words.name)?;
     let degree = read_degree(words.degree).ok()?;
     let group = Name::new(words.group)?;
+    let moments = moments_of(words.moments)?;
     Some(Draft {
         kind: words.kind,
         name,
         degree,
         group,
+        moments,
     })
 }
 

@@ -5,7 +5,7 @@ ghost use Rattle.std.specs.Str.{bytes_eq};
 ghost use Rattle.degree_numbers.specs.Fraction.{IsLowest};
 ghost use Rattle.degree_numbers.specs.Name.{is_name};
 ghost use Rattle.type_contexts.specs.Different.{begins_new};
-ghost use Rattle.degree_numbers.specs.Types.{is_noise, IsScaling, IsWritable, IsNoiseEntry, IsKernelEntry, AreDifferent, AreNames, AreInOrder, AreTypes};
+ghost use Rattle.degree_numbers.specs.Types.{is_noise, IsScaling, IsWritable, IsMoments, AreDirections, IsNoiseEntry, IsKernelEntry, AreDifferent, AreNames, AreInOrder, AreTypes};
 
 use degree_numbers::{Kind, Name, TypeEntry, Types, with_denominator};
 use std::alloc::{AllocError, Global};
@@ -15,6 +15,8 @@ const MOST_DIMENSIONS: u8 = 5;
 const LARGEST_SCALING: u32 = 10;
 
 const LARGEST_DEGREE: u64 = 20;
+
+const LARGEST_MOMENT: u8 = 20;
 
 const LARGEST_NUMBER: u64 = 1_000_000;
 
@@ -61,6 +63,15 @@ fn is_writable(den: u64, size: u64) -> bool
     size <= LARGEST_DEGREE * den && lowest_numerator(size, den) <= LARGEST_NUMBER
 }
 
+fn is_moments(moments: Option<u8>) -> bool
+    ensures { IsTrue result ↔ IsMoments moments }
+{
+    match moments {
+        Some(number) => number <= LARGEST_MOMENT,
+        None => true,
+    }
+}
+
 fn is_noise_entry(den: u64, entry: &TypeEntry) -> bool
     requires above { 0 < den }
     requires fits { den ≤ 1000000 }
@@ -68,6 +79,9 @@ fn is_noise_entry(den: u64, entry: &TypeEntry) -> bool
 {
     match entry.kind {
         Kind::Noise => {
+            if entry.moments.is_some() {
+                return false;
+            }
             is_writable(den, entry.degree.a.unsigned_abs())
                 && is_writable(den, entry.degree.b.unsigned_abs())
         }
@@ -86,6 +100,7 @@ fn is_kernel_entry(den: u64, entry: &TypeEntry) -> bool
             entry.degree.a > 0
                 && entry.degree.b == 0
                 && entry.group == 0
+                && is_moments(entry.moments)
                 && is_writable(den, entry.degree.a.unsigned_abs())
         }
     }
@@ -219,6 +234,20 @@ fn are_grouped(noises: &[TypeEntry], groups: &[Name]) -> bool
     are_names(groups) && are_in_order(noises, groups.len())
 }
 
+// Whether these are directions, each behind the one before.
+fn are_directions(dims: u8, directions: &[u8]) -> bool
+    ensures { IsTrue result ↔ AreDirections 0 dims directions.now }
+{
+    let mut past = 0;
+    for direction in directions {
+        if *direction <= past || *direction > dims {
+            return false;
+        }
+        past = *direction;
+    }
+    true
+}
+
 /// Whether these are the types of some equation file that is accepted with all its limits. Fails only for want of memory.
 pub fn are_file_types(alloc: Global, types: &Types) -> Result<bool, AllocError>
     ensures { IfOk result (λ holds. IsTrue holds ↔ AreTypes types.now) }
@@ -235,6 +264,7 @@ pub fn are_file_types(alloc: Global, types: &Types) -> Result<bool, AllocError>
             && are_few(noises.len(), kernels.len())
             && are_entries(den, noises, kernels)
             && are_names(names.as_slice())
-            && are_grouped(noises, types.groups.as_slice()),
+            && are_grouped(noises, types.groups.as_slice())
+            && are_directions(types.dims, types.reflect.as_slice()),
     )
 }

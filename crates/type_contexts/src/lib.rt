@@ -4,16 +4,18 @@
 mod build;
 mod draft;
 mod file_types;
+mod form;
 mod laws;
 mod print;
 mod read;
+mod reflect;
 mod refusal;
 mod scaling;
 #[cfg(test)]
 mod tests;
 
 pub use file_types::are_file_types;
-pub use laws::contexts_determine_types;
-pub use print::context_text;
-pub use read::read_context;
+pub use laws::{contexts_determine_types, forms_of_contexts};
+pub use print::{context_text, old_context_text};
+pub use read::{read_context, read_old_context};
 pub use refusal::ContextRefusal;

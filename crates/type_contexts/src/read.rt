@@ -1,15 +1,18 @@
 // A context, read.
-ghost use Rattle.std.specs.Prelude.{◌≡◌, ◌≤◌, ◌<◌, ◌<ℤ◌, ◌≤ℤ◌, ◌↔◌, pos, IsTrue, IfOk, IfErr, length, map};
+ghost use Rattle.std.specs.Prelude.{◌≡◌, ◌≤◌, ◌<◌, ◌<ℤ◌, ◌≤ℤ◌, ◌↔◌, pos, IsTrue, IfOk, IfErr};
 ghost use Rattle.degree_numbers.specs.declared.types.Types.{Types};
 ghost use Rattle.degree_numbers.specs.Types.{AreTypes};
 ghost use Rattle.type_contexts.specs.declared.refusal.ContextRefusal.TheVariants.{ContextText, Memory};
-ghost use Rattle.type_contexts.specs.Context.{ArePieces, IsContextText};
+ghost use Rattle.type_contexts.specs.Context.{IsTextIn, IsContextText, IsOldContextText};
+ghost use Rattle.type_contexts.specs.Parts.{ArePartsOf, seen_parts};
 ghost use Rattle.type_contexts.specs.Same.{AreSameTypes, AreInLeastUnits};
 
 use crate::build::types_of;
 use crate::draft::{drafts_of, parts_of};
 use crate::file_types::are_file_types;
-use crate::print::context_text;
+use crate::form::{Form, Parts, parts_in};
+use crate::print::text_in;
+use crate::reflect::reflect_of;
 use crate::refusal::ContextRefusal;
 use crate::scaling::scaling_of;
 use degree_numbers::Types;
@@ -17,46 +20,60 @@ use std::alloc::{AllocError, Global};
 
 const MOST_TYPES: usize = 16;
 
-fn are_few(pieces: &[&[u8]]) -> bool
-    ensures { IsTrue result ↔ (0 < length pieces.now) × (length pieces.now ≤ 17) }
-{
-    !pieces.is_empty() && pieces.len() <= MOST_TYPES + 1
-}
-
-// The types that the pieces say, be they those of a file or not.
-fn types_in(alloc: Global, pieces: &[&[u8]]) -> Result<Types, ContextRefusal>
+// The types that the parts say, be they those of a file or not.
+fn types_in(alloc: Global, parts: &Parts) -> Result<Types, ContextRefusal>
     ensures above { IfOk result (λ ty. pos 0 <ℤ ty.units.den) }
     ensures fits { IfOk result (λ ty. ty.units.den ≤ℤ pos 1000000) }
     ensures units { IfOk result AreInLeastUnits }
-    ensures same { (ty : Types) → AreTypes ty → ArePieces ty (map (λ s. s.now) pieces.now) → IfOk result (AreSameTypes ty) }
-    ensures err { (ty : Types) → AreTypes ty → ArePieces ty (map (λ s. s.now) pieces.now) → IfErr result (λ e. e ≡ Memory) }
+    ensures same { (form : Form) (ty : Types) → AreTypes ty → ArePartsOf form ty (seen_parts parts.now) → IfOk result (AreSameTypes ty) }
+    ensures err { (form : Form) (ty : Types) → AreTypes ty → ArePartsOf form ty (seen_parts parts.now) → IfErr result (λ e. e ≡ Memory) }
 {
-    if !are_few(pieces) {
+    if parts.entries.len() > MOST_TYPES {
         return Err(ContextRefusal::ContextText);
     }
-    let (dims, scaling) = scaling_of(alloc, pieces[0])?;
-    let drafts = drafts_of(alloc, &pieces[1..])?;
-    types_of(alloc, dims, scaling, drafts.as_slice())
+    let (dims, scaling) = scaling_of(alloc, parts.scaling)?;
+    let reflect = reflect_of(alloc, parts.reflect)?;
+    let drafts = drafts_of(alloc, parts.entries)?;
+    types_of(alloc, dims, scaling, reflect, drafts.as_slice())
 }
 
-fn has_text(alloc: Global, types: &Types, text: &[u8]) -> Result<bool, AllocError>
+fn has_text(alloc: Global, form: Form, types: &Types, text: &[u8]) -> Result<bool, AllocError>
     requires dims { types.now.dims ≤ 5 }
     requires above { pos 0 <ℤ types.now.units.den }
     requires fits { types.now.units.den ≤ℤ pos 1000000 }
-    ensures { IfOk result (λ holds. IsTrue holds ↔ IsContextText types.now text.now) }
+    ensures { IfOk result (λ holds. IsTrue holds ↔ IsTextIn form types.now text.now) }
 {
-    let printed = context_text(alloc, types)?;
+    let printed = text_in(alloc, form, types)?;
     Ok(printed.as_slice() == text)
 }
 
 // Whether types are those of a file, and this is their text.
-fn have_context(alloc: Global, types: &Types, text: &[u8]) -> Result<bool, AllocError>
-    ensures { IfOk result (λ holds. IsTrue holds ↔ AreTypes types.now × IsContextText types.now text.now) }
+fn have_text(alloc: Global, form: Form, types: &Types, text: &[u8]) -> Result<bool, AllocError>
+    ensures { IfOk result (λ holds. IsTrue holds ↔ AreTypes types.now × IsTextIn form types.now text.now) }
 {
     if are_file_types(alloc, types)? {
-        has_text(alloc, types, text)
+        has_text(alloc, form, types, text)
     } else {
         Ok(false)
+    }
+}
+
+// The types whose context in this form the text is.
+fn read_in(alloc: Global, form: Form, text: &[u8]) -> Result<Types, ContextRefusal>
+    ensures types { IfOk result AreTypes }
+    ensures units { IfOk result AreInLeastUnits }
+    ensures text { IfOk result (λ ty. IsTextIn form ty text.now) }
+    ensures refused { IfErr result (λ e. e ≡ ContextText → (ty : Types) → AreTypes ty → IsTextIn form ty text.now → ⊥) }
+{
+    let pieces = parts_of(alloc, b'|', text)?;
+    let Some(parts) = parts_in(form, pieces.as_slice()) else {
+        return Err(ContextRefusal::ContextText);
+    };
+    let types = types_in(alloc, &parts)?;
+    if have_text(alloc, form, &types, text)? {
+        Ok(types)
+    } else {
+        Err(ContextRefusal::ContextText)
     }
 }
 
@@ -69,11 +86,16 @@ pub fn read_context(alloc: Global, text: &[u8]) -> Result<Types, ContextRefusal>
     ensures text { IfOk result (λ ty. IsContextText ty text.now) }
     ensures refused { IfErr result (λ e. e ≡ ContextText → (ty : Types) → AreTypes ty → IsContextText ty text.now → ⊥) }
 {
-    let pieces = parts_of(alloc, b'|', text)?;
-    let types = types_in(alloc, pieces.as_slice())?;
-    if have_context(alloc, &types, text)? {
-        Ok(types)
-    } else {
-        Err(ContextRefusal::ContextText)
-    }
+    read_in(alloc, Form::New, text)
+}
+
+/// The types whose context in the old form this text is, in the same units. Refusal: `ContextText` exactly where the text is the old context of no types that an accepted
+/// equation file has.
+pub fn read_old_context(alloc: Global, text: &[u8]) -> Result<Types, ContextRefusal>
+    ensures types { IfOk result AreTypes }
+    ensures units { IfOk result AreInLeastUnits }
+    ensures text { IfOk result (λ ty. IsOldContextText ty text.now) }
+    ensures refused { IfErr result (λ e. e ≡ ContextText → (ty : Types) → AreTypes ty → IsOldContextText ty text.now → ⊥) }
+{
+    read_in(alloc, Form::Old, text)
 }

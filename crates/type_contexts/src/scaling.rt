@@ -1,5 +1,5 @@
 // The scaling that is read.
-ghost use Rattle.std.specs.Prelude.{◌≡◌, ◌≤◌, [], ◌∷◌, ℕ, List, Some, decimal, length, map, option_map, take, slice_index, IfErr, IfOk};
+ghost use Rattle.std.specs.Prelude.{◌≡◌, ◌≤◌, [], ◌∷◌, ℕ, List, Some, decimal, length, map, option_map, take, slice_index, IfErr, IfOk, IfSome};
 ghost use Rattle.std.specs.List.{AllByRecursion};
 ghost use Rattle.degree_numbers.specs.Types.{IsScaling};
 ghost use Rattle.degree_numbers.specs.declared.types.Types.{Types};
@@ -12,15 +12,17 @@ use crate::refusal::ContextRefusal;
 use std::alloc::Global;
 use text_parts::number_of;
 
-const LARGEST_SCALING: u64 = 10;
+const LARGEST_SCALING: u32 = 10;
 
 const MOST_DIMENSIONS: usize = 5;
 
-fn small_number(part: &[u8]) -> Option<u32>
-    ensures { (n : ℕ) → n ≤ 10 → part.now ≡ decimal n → result ≡ Some n }
+/// The whole number of a text, which is at most this.
+pub fn number_up_to(most: u32, text: &[u8]) -> Option<u32>
+    ensures value { (n : ℕ) → n ≤ most → text.now ≡ decimal n → result ≡ Some n }
+    ensures most { IfSome result (λ n. n ≤ most) }
 {
-    let (number, _) = number_of(part)?;
-    if number > LARGEST_SCALING {
+    let (number, _) = number_of(text)?;
+    if number > most as u64 {
         return None;
     }
     Some(number as u32)
@@ -31,7 +33,7 @@ fn entry_at(parts: &[&[u8]], i: usize) -> Option<u32>
     ensures { (entries : List ℕ) → map (λ s. s.now) parts.now ≡ map decimal entries → AllByRecursion (λ n. n ≤ 10) entries → result ≡ Some (slice_index entries i) }
 {
     if i < parts.len() {
-        small_number(parts[i])
+        number_up_to(LARGEST_SCALING, parts[i])
     } else {
         Some(0)
     }
@@ -59,7 +61,8 @@ fn directions_of(parts: &[&[u8]]) -> Option<(u8, [u32; 5])>
     Some((parts.len() as u8, scaling))
 }
 
-fn second_of<'a>(words: &[&'a [u8]]) -> Option<&'a [u8]>
+/// The second of two words.
+pub fn second_of<'a>(words: &[&'a [u8]]) -> Option<&'a [u8]>
     ensures { option_map (λ s. s.now) result ≡ second_of (map (λ s. s.now) words.now) }
 {
     match words {

@@ -1,16 +1,17 @@
 -- The types of the file that is written for types are the same types.
-use Rattle.std.proofs.Common.{◌≡◌, ℕ, ◌+◌, ◌<◌, ◌≤◌, unsigned_abs, List, [], ◌∷◌, ◌++◌, length, map, take, fold, arith, refl, ap, sym, subst, ◌∙◌}
+use Rattle.std.proofs.Common.{◌≡◌, ◌≢◌, ℕ, zero, suc, Bool, true, false, None, ◌+◌, ◌<◌, ◌≤◌, unsigned_abs, List, [], ◌∷◌, ◌++◌, length, map, take, fold, arith, refl, ap, sym, subst, ◌∙◌}
 use Rattle.std.proofs.Math.Logic.{inl, inr}
 use Rattle.std.proofs.Math.Seq.{take-length}
-use Rattle.std.specs.Prelude.{if◌then◌else◌}
-use Rattle.std.specs.List.{AllByRecursion, AllZip}
+use Rattle.std.specs.Prelude.{◌||◌, nat_eq, if◌then◌else◌}
+use Rattle.std.proofs.lemmas.Bool.Decides.{nat_tests}
+use Rattle.std.specs.List.{AllByRecursion, AllZip, list_any, filter, range_with_len}
 use Rattle.std.proofs.lemmas.List.{length-take, take-append-drop}
 use Rattle.degree_numbers.specs.declared.types.Kind.TheVariants.{Noise, Kernel}
 use Rattle.degree_numbers.specs.declared.types.TypeEntry.{TypeEntry}
 use Rattle.degree_numbers.specs.declared.types.Types.{Types}
 use Rattle.degree_numbers.specs.declared.degree.Degree.{Degree}
 use Rattle.degree_numbers.specs.DegreeText.{Written}
-use Rattle.degree_numbers.specs.Types.{noise_count, noises, kernels, AreDifferent, AreInOrder, AreTypes}
+use Rattle.degree_numbers.specs.Types.{noise_count, noises, kernels, AreDifferent, AreInOrder, AreDirections, AreTypes}
 use Rattle.degree_numbers.specs.Fraction.{under_sign}
 use Rattle.degree_numbers.specs.Written.{in_units_of}
 use Rattle.degree_numbers.proofs.TypeBounds.{all_weaker}
@@ -18,7 +19,7 @@ use Rattle.equation_document.specs.declared.document.Document.{Document}
 use Rattle.equation_document.specs.Limits.{units_of, degree_fractions}
 use Rattle.equation_document.specs.Names.{place_of, stands_in}
 use Rattle.equation_document.proofs.LeastCommon.{least_above}
-use Rattle.equation_file.specs.Meaning.{with_group, groups_of, noise_type, kernel_type, types_of}
+use Rattle.equation_file.specs.Meaning.{with_group, groups_of, is_written, noise_type, kernel_type, types_of}
 use Rattle.equation_file.proofs.ClearedDegrees.{AreCleared, units_clear}
 use Rattle.type_contexts.specs.Context.{name_at}
 use Rattle.type_contexts.specs.Same.{IsSameFraction, IsSameEntry, AreSameTypes}
@@ -44,6 +45,41 @@ groups_back w names (e ∷ es) met d (inr p) =
     ap (λ b. fold with_group (if b then take met names else take met names ++ name_at names e.group ∷ []) (map (noise_entry w names) es)) (ap (λ g. stands_in (take met names) (name_at names g)) p.0 ∙ not_yet names met lt d)
     ∙ ap (λ g. fold with_group (take met names ++ name_at names g ∷ []) (map (noise_entry w names) es)) p.0 ∙ ap (λ ns. fold with_group ns (map (noise_entry w names) es)) (one_more_name names met lt) ∙ groups_back w names es (met + 1) d p.1
 
+none_there : (past dims : ℕ) (is : List ℕ) (j : ℕ) → AreDirections past dims is → j ≤ past → list_any (λ i. nat_eq i j) is ≡ false
+none_there past dims [] j h le = refl
+none_there past dims (i ∷ is) j h le =
+    let lt = h.0 in
+    rw (other i j (omega (arith, lt, le)), none_there i dims is j h.2 (omega (arith, lt, le))) refl
+  where
+    other : (i j : ℕ) → j < i → nat_eq i j ≡ false
+    other i j lt = grind (arith, nat_tests)
+
+-- the directions that stand in an ascending list are that list
+directions_back : (p : ℕ → Bool) (past n : ℕ) (is : List ℕ) → AreDirections past (past + n) is → ((j : ℕ) → past < j → p j ≡ list_any (λ i. nat_eq i j) is) → filter p (range_with_len (past + 1) n) ≡ is
+directions_back p past zero [] h told = refl
+directions_back p past zero (i ∷ is) h told = let lt = h.0 in let le = h.1 in absurd (omega (arith, lt, le))
+directions_back p past (suc n) [] h told = rw (told (past + 1) (omega arith)) (directions_back p (past + 1) n [] tt (λ j lt. told j (omega (arith, lt))))
+directions_back p past (suc n) (i ∷ is) h told =
+    (elim (nat_eq i (past + 1)) as (λ b. nat_eq i (past + 1) ≡ b → filter p (range_with_len (past + 1) (suc n)) ≡ i ∷ is) [
+      | true ↦ λ e.
+          let same : i ≡ past + 1 = grind (arith, nat_tests) in
+          let rest : AreDirections (past + 1) (past + 1 + n) is = subst (λ m. AreDirections (past + 1) m is) (omega arith) (subst (λ m. AreDirections m (past + suc n) is) same h.2) in
+          rw (told (past + 1) (omega arith), e)
+          (ap (λ m. m ∷ filter p (range_with_len (past + 1 + 1) n)) (sym same) ∙ ap (λ ms. i ∷ ms) (directions_back p (past + 1) n is rest (λ j lt. told j (omega (arith, lt)) ∙ ap (λ b. b || list_any (λ k. nat_eq k j) is) (not_this i j same lt))))
+      | false ↦ λ e.
+          let lt = h.0 in
+          let later : past + 1 < i = (let other = not_same i (past + 1) e in omega (arith, lt, other)) in
+          let rest : AreDirections (past + 1) (past + 1 + n) (i ∷ is) = (later, (let le = h.1 in omega (arith, le)), subst (λ m. AreDirections i m is) (omega arith) h.2) in
+          rw (told (past + 1) (omega arith), e, none_there i (past + suc n) is (past + 1) h.2 (omega (arith, later)))
+          (directions_back p (past + 1) n (i ∷ is) rest (λ j lt. told j (omega (arith, lt))))
+    ]) refl
+  where
+    not_this : (i j : ℕ) → i ≡ past + 1 → past + 1 < j → nat_eq i j ≡ false
+    not_this i j same lt = grind (arith, nat_tests)
+
+    not_same : (i j : ℕ) → nat_eq i j ≡ false → i ≢ j
+    not_same i j e same = grind (arith, nat_tests)
+
 abbrev pub by_text : (TypeEntry → List ℕ) → TypeEntry → Written
 by_text t e = read_of (t e)
 
@@ -61,6 +97,7 @@ same_b den l d text above h c =
 record IsNoiseBack (den l : ℕ) (t : TypeEntry → List ℕ) (all : ℕ) (e : TypeEntry) : Type 0 where
   kind : e.kind ≡ Noise
   group : e.group < all
+  moments : e.moments ≡ None
   back : IsBack den e.degree (t e)
   clears : AreCleared l (read_of (t e))
 
@@ -76,6 +113,7 @@ noises_back den l t names gs (e ∷ es) above same d h = (
   record {
     name = refl;
     kind = h.0.kind;
+    moments = h.0.moments;
     group = sym (ap (λ ns. place_of ns (name_at names e.group)) same ∙ place_whole names e.group h.0.group d);
     a = same_a den l e.degree (t e) above h.0.back h.0.clears;
     b = same_b den l e.degree (t e) above h.0.back h.0.clears;
@@ -90,6 +128,7 @@ kernels_back den l t z (e ∷ es) above h = (
     name = refl;
     kind = h.0.kind;
     group = h.0.group;
+    moments = refl;
     a = same_a den l e.degree (t e) above h.0.back h.0.clears;
     b = same_b den l e.degree (t e) above h.0.back h.0.clears;
   },
@@ -114,24 +153,29 @@ pub both : {A : Type 0} (P Q R : A → Type 0) (xs : List A) → ((x : A) → P 
 both P Q R [] join p q = tt
 both P Q R (x ∷ xs) join p q = (join x p.0 q.0, both P Q R xs join p.1 q.1)
 
+whole : (n m : ℕ) → n ≡ m → m ≡ 0 + n
+whole n m e = omega (arith, e)
+
 -- the types of the document are the same types
-pub types_back : (ty : Types) (t : TypeEntry → List ℕ) (z : Written) → AreTypes ty → AllByRecursion (λ e. (e.kind ≡ Noise) × (e.group < length ty.groups) × IsBack (unsigned_abs ty.units.den) e.degree (t e)) (noises ty) → AllByRecursion (λ e. (e.kind ≡ Kernel) × (e.group ≡ 0) × IsBack (unsigned_abs ty.units.den) e.degree (t e)) (kernels ty) → units_of (the_document (by_text t) z ty) ≤ 1000000 → AreSameTypes ty (types_of (units_of (the_document (by_text t) z ty)) (the_document (by_text t) z ty))
+pub types_back : (ty : Types) (t : TypeEntry → List ℕ) (z : Written) → AreTypes ty → AllByRecursion (λ e. (e.kind ≡ Noise) × (e.group < length ty.groups) × (e.moments ≡ None) × IsBack (unsigned_abs ty.units.den) e.degree (t e)) (noises ty) → AllByRecursion (λ e. (e.kind ≡ Kernel) × (e.group ≡ 0) × IsBack (unsigned_abs ty.units.den) e.degree (t e)) (kernels ty) → units_of (the_document (by_text t) z ty) ≤ 1000000 → AreSameTypes ty (types_of (units_of (the_document (by_text t) z ty)) (the_document (by_text t) z ty))
 types_back ty t z types n k fits =
     let doc = the_document (by_text t) z ty in
     let den = unsigned_abs ty.units.den in
     let l = units_of doc in
     let cleared = units_clear doc fits in
+    let long : length (take ty.dims ty.scaling) ≡ ty.dims = length-take ty.dims ty.scaling ∙ omega (arith, types.scaling.most, types.scaling.entries) in
     let groups : groups_of doc.noises ≡ ty.groups = groups_back (by_text t) ty.groups (noises ty) 0 types.groups.different types.numbered in
     record {
-      dims = sym (length-take ty.dims ty.scaling ∙ omega (arith, types.scaling.most, types.scaling.entries));
+      dims = sym long;
       scaling = sym (scaling_back ty.dims ty.scaling types.scaling);
       list =
           subst (λ es. AllZip (IsSameEntry den l) es (map (noise_type l (groups_of doc.noises)) doc.noises ++ map (kernel_type l) doc.unknowns)) (take-append-drop (noise_count ty) ty.list)
           (zip_joined (IsSameEntry den l) (noises ty) (kernels ty) (map (noise_type l (groups_of doc.noises)) doc.noises) (map (kernel_type l) doc.unknowns)
           (noises_back den l t ty.groups (groups_of doc.noises) (noises ty) (units_above doc) groups types.groups.different
-          (both _ (λ e. AreCleared l (read_of (t e))) (IsNoiseBack den l t (length ty.groups)) (noises ty) (λ e p c. record { kind = p.0; group = p.1; back = p.2; clears = c }) n (unmapped (λ m. AreCleared l m.degree) (noise_entry (by_text t) ty.groups) (noises ty) cleared.0)))
+          (both _ (λ e. AreCleared l (read_of (t e))) (IsNoiseBack den l t (length ty.groups)) (noises ty) (λ e p c. record { kind = p.0; group = p.1; moments = p.2; back = p.3; clears = c }) n (unmapped (λ m. AreCleared l m.degree) (noise_entry (by_text t) ty.groups) (noises ty) cleared.0)))
           (kernels_back den l t z (kernels ty) (units_above doc)
           (both _ (λ e. AreCleared l (read_of (t e))) (IsKernelBack den l t) (kernels ty) (λ e p c. record { kind = p.0; group = p.1; back = p.2; clears = c }) k
           (all_weaker _ (λ e. AreCleared l (read_of (t e))) (kernels ty) (λ e c. c.0) (unmapped (λ u. AreCleared l u.degree × AreCleared l u.regularity) (unknown_entry (by_text t) z) (kernels ty) cleared.1)))));
       groups = sym groups;
+      reflect = sym (directions_back (is_written ty.reflect) 0 (length (take ty.dims ty.scaling)) ty.reflect (subst (λ n. AreDirections 0 n ty.reflect) (whole (length (take ty.dims ty.scaling)) ty.dims long) types.reflected) (λ j lt. refl));
     }

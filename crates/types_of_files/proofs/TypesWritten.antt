@@ -1,5 +1,5 @@
 -- For each types of a file there is a table of a file that has them.
-use Rattle.std.proofs.Common.{◌≡◌, ℕ, zero, suc, ◌+◌, ◌<◌, ◌≤◌, true, ℤ, pos, ◌<ℤ◌, unsigned_abs, List, [], ◌∷◌, ◌++◌, length, map, take, drop, Ok, arith, refl, ap, sym, subst, ◌∙◌}
+use Rattle.std.proofs.Common.{◌≡◌, ℕ, zero, suc, ◌+◌, ◌<◌, ◌≤◌, true, ℤ, pos, ◌<ℤ◌, unsigned_abs, List, [], ◌∷◌, ◌++◌, length, map, take, drop, None, Ok, arith, refl, ap, sym, subst, ◌∙◌}
 use Rattle.std.proofs.Math.Logic.{inl, inr}
 use Rattle.std.specs.List.{AllByRecursion}
 use Rattle.std.proofs.lemmas.List.{length-take, take-append-drop, map-append}
@@ -9,7 +9,7 @@ use Rattle.degree_numbers.specs.declared.types.TypeEntry.{TypeEntry}
 use Rattle.degree_numbers.specs.declared.types.Types.{Types}
 use Rattle.degree_numbers.specs.Degree.{degree_zero}
 use Rattle.degree_numbers.specs.Name.{is_name}
-use Rattle.degree_numbers.specs.Types.{noise_count, noises, kernels, IsNoiseEntry, IsKernelEntry, IsWritable, AreDifferent, AreInOrder, AreTypes}
+use Rattle.degree_numbers.specs.Types.{noise_count, noises, kernels, IsNoiseEntry, IsKernelEntry, IsWritable, IsMoments, AreDirections, AreDifferent, AreInOrder, AreTypes}
 use Rattle.degree_numbers.proofs.InUnits.{lowest_exists}
 use Rattle.degree_numbers.proofs.TypeBounds.{all_weaker, den_small}
 use Rattle.equation_document.specs.declared.document.Document.{Document}
@@ -56,6 +56,7 @@ record IsNoiseWritten (den all : ℕ) (t : TypeEntry → List ℕ) (e : TypeEntr
   group : e.group < all
   back : IsBack den e.degree (t e)
   name : is_name e.name ≡ true
+  moments : e.moments ≡ None
 
 record IsKernelWritten (den : ℕ) (t : TypeEntry → List ℕ) (e : TypeEntry) : Type 0 where
   kind : e.kind ≡ Kernel
@@ -64,6 +65,7 @@ record IsKernelWritten (den : ℕ) (t : TypeEntry → List ℕ) (e : TypeEntry) 
   name : is_name e.name ≡ true
   above : pos 0 <ℤ e.degree.a
   without_k : e.degree.b ≡ pos 0
+  moments : IsMoments e.moments
 
 abbrev texts : (den : ℕ) → 0 < den → TypeEntry → List ℕ
 texts den above e = (degree_has_text e.degree den above).0
@@ -74,6 +76,7 @@ noise_written den all above e n p = record {
   group = p.0;
   back = written_back e.degree den (texts den above e) above record { a = n.a; b = n.b } (degree_has_text e.degree den above).1;
   name = p.1;
+  moments = n.moments;
 }
 
 kernel_written : (den : ℕ) (above : 0 < den) (e : TypeEntry) → den ≤ 1000000 → IsKernelEntry den e → is_name e.name ≡ true → IsKernelWritten den (texts den above) e
@@ -84,6 +87,7 @@ kernel_written den above e fits k name = record {
   name = name;
   above = k.above;
   without_k = k.without_k;
+  moments = k.moments;
 }
 
 noises_written : (ty : Types) (types : AreTypes ty) (above : 0 < unsigned_abs ty.units.den) → AllByRecursion (IsNoiseWritten (unsigned_abs ty.units.den) (length ty.groups) (texts (unsigned_abs ty.units.den) above)) (noises ty)
@@ -121,17 +125,17 @@ types_written ty types =
     let small_k = all_weaker (IsKernelWritten den t) (λ e. IsSmallWritten den (by_text t e)) (kernels ty) (λ e h. h.back.small) k in
     let names = map (λ (e : TypeEntry). e.name) (noises ty) ++ map (λ (e : TypeEntry). e.name) (kernels ty) in
     let few : length (noises ty) ≤ 8 = omega (arith, length-take (noise_count ty) ty.list, types.noises_most) in
-    let limits = limits_kept den (by_text t) z ty.groups scaling names (noises ty) (kernels ty) (omega (arith, long, types.scaling.most)) (entries_small ty.dims ty.scaling types.scaling) few types.kernels_most above fits zero_back.small small_n small_k in
-    let most : units_of doc ≤ den = units_most den (by_text t) z ty.groups scaling names (noises ty) (kernels ty) above fits zero_back.small small_n small_k in (
+    let limits = limits_kept den (by_text t) z ty.groups scaling ty.reflect names (noises ty) (kernels ty) (omega (arith, long, types.scaling.most)) (entries_small ty.dims ty.scaling types.scaling) few types.kernels_most above fits zero_back.small small_n small_k in
+    let most : units_of doc ≤ den = units_most den (by_text t) z ty.groups scaling ty.reflect names (noises ty) (kernels ty) above fits zero_back.small small_n small_k in (
       file_of t zero_text.0 ty,
       doc,
-      file_accepted t (by_text t) zero_text.0 z ty (omega (arith, long, types.scaling.some)) (all_weaker (λ s. (0 < s) × (s ≤ 10)) (λ s. 0 < s) scaling (λ s p. p.0) types.scaling.within) types.kernels_some
+      file_accepted t (by_text t) zero_text.0 z ty (omega (arith, long, types.scaling.some)) (all_weaker (λ s. (0 < s) × (s ≤ 10)) (λ s. 0 < s) scaling (λ s p. p.0) types.scaling.within) (subst (λ n. AreDirections 0 n ty.reflect) (sym long) types.reflected) types.kernels_some
           (all_weaker (IsNoiseWritten den (length ty.groups) t) (IsWrittenAs t (by_text t)) (noises ty) (λ e h. record { name = h.name; read = h.back.read }) n)
           (all_weaker (IsNoiseWritten den (length ty.groups) t) (λ e. is_name (name_at ty.groups e.group) ≡ true) (noises ty) (λ e h. named_at (λ g. is_name g ≡ true) ty.groups e.group h.group types.groups.are_names) n)
           (all_weaker (IsKernelWritten den t) (IsWrittenAs t (by_text t)) (kernels ty) (λ e h. record { name = h.name; read = h.back.read }) k)
-          (all_weaker (IsKernelWritten den t) (λ e. is_positive (by_text t e) ≡ true) (kernels ty) (λ e h. positive e.degree den (t e) above h.back h.without_k h.above) k)
+          (all_weaker (IsKernelWritten den t) (λ e. (is_positive (by_text t e) ≡ true) × IsMoments e.moments) (kernels ty) (λ e h. (positive e.degree den (t e) above h.back h.without_k h.above, h.moments)) k)
           zero_back.read (standard degree_zero den zero_text.0 above zero_back refl) (subst AreDifferent (names_joined ty) types.names.different) limits,
       types_back ty t z types
-          (all_weaker (IsNoiseWritten den (length ty.groups) t) _ (noises ty) (λ e h. (h.kind, h.group, h.back)) n)
+          (all_weaker (IsNoiseWritten den (length ty.groups) t) _ (noises ty) (λ e h. (h.kind, h.group, h.moments, h.back)) n)
           (all_weaker (IsKernelWritten den t) _ (kernels ty) (λ e h. (h.kind, h.group, h.back)) k) (omega (arith, most, fits)),
     )

@@ -1,3 +1,5 @@
 pub mod TextLemmas
 pub mod ToldLemmas
+mod BookLemmas
+mod DoorLemmas
 mod Fronts

@@ -1,2 +1,4 @@
-mod Answers
-mod Commands
+mod DeliveryLemmas
+mod NumberLemmas
+mod ReadLemmas
+mod RunLemmas

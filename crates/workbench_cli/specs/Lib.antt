@@ -1,2 +1,4 @@
-pub mod Answer
-pub mod Words
+pub mod Delivery
+pub mod Numbers
+pub mod Reading
+pub mod Runs

@@ -1,6 +1,7 @@
 //! All that the program does: its words and the top call `workbench`, over any files and places to write to.
 #![tactic(auto)]
 
+mod reading;
 #[cfg(test)]
 mod tests;
 mod top;
@@ -9,3 +10,4 @@ mod whole_files;
 mod words;
 
 pub use top::{Status, workbench};
+pub use words::read_number;

@@ -104,11 +104,47 @@ fn equations_are_accepted_or_refused(rt: HostRuntime) -> Result<(), Fail> {
 
 #[test]
 fn other_words_are_refused(rt: HostRuntime) -> Result<(), Fail> {
-    for line in ["", "check", "chek file", "check -file", "check file file"] {
+    for line in [
+        "",
+        "check",
+        "chek file",
+        "check -file",
+        "check file file",
+        "add file file",
+        "show file",
+        "names",
+        "compute file",
+        "compute file --fresh",
+        "detail file [xi]",
+        "sample 4",
+        "serve 1 8080",
+    ] {
         let run = run_program(rt.alloc(), line, PHI4_2D.as_bytes(), &[], &[])?;
         assert_eq!(rt; (run.code, run.out.len()), (2, 0), "{line}");
         assert_eq!(rt; run.err.as_slice(), b"refused 2 Words\n".as_slice());
     }
+    Ok(())
+}
+
+#[test]
+fn numbers_are_digits_without_leading_zeros(rt: HostRuntime) -> Result<(), Fail> {
+    for (word, number) in [
+        ("1", Some(1)),
+        ("65535", Some(65535)),
+        ("8080", Some(8080)),
+        ("0", None),
+        ("65536", None),
+        ("08080", None),
+        ("+8080", None),
+        ("-1", None),
+        ("", None),
+        ("8 0", None),
+        ("4294967297", None),
+        ("99999999999999999999", None),
+    ] {
+        assert_eq!(rt; read_number(word, 1, 65535), number, "{word}");
+    }
+    assert_eq!(rt; read_number("0", 0, 1_000_000), Some(0));
     Ok(())
 }
 

@@ -1,22 +1,21 @@
 // The top call.
-ghost use Rattle.std.specs.Prelude.{◌≡◌, ◌≢◌, ◌↔◌, ◌⊎◌, ℕ, List, [], ◌∷◌, ◌≤◌, take, map, codes, Some, Ok, Err, string_bytes, IfOk, IfErr, Result};
+ghost use Rattle.std.specs.Prelude.{◌≡◌, ◌≢◌, ◌↔◌, ◌⊎◌, ℕ, List, [], ◌∷◌, map, Some, Err, string_bytes, OnOk, IfOk, IfErr};
 ghost use Rattle.wb_outside.specs.Causes.{Rose};
-ghost use Rattle.wb_outside.specs.Told.{Lengthens, Grows, Gets};
+ghost use Rattle.wb_outside.specs.Told.{Lengthens, Grows, GrowsByFront, Gets, writing};
 ghost use Rattle.workbench_core.specs.declared.refusal.Refusal.{Refusal};
-ghost use Rattle.workbench_core.specs.Check.{IsChecked};
+ghost use Rattle.workbench_core.specs.declared.request.Request.{Request};
+ghost use Rattle.workbench_core.specs.Answers.{Answer, of_output, of_refusal, IsGiven};
+ghost use Rattle.workbench_core.specs.Fixed.{fixed_status, fixed_line};
 ghost use Rattle.workbench_core.specs.Refusals.{status_of, line_of};
-ghost use Rattle.workbench_core.specs.Trees.{IsTreesOf};
-ghost use Rattle.workbench_cli.specs.Answer.{Answer, of_result, of_write_fault, Gives, IsOfFile, IsAnswer, IsAnswerTo, AsksFor, Asks};
-ghost use Rattle.workbench_cli.specs.Words.{IsCommand, IsNoCommand};
+ghost use Rattle.workbench_core.specs.Requests.{IsRequest, IsNoRequest, files_of};
+ghost use Rattle.workbench_cli.specs.Delivery.{IsDelivered};
+ghost use Rattle.workbench_cli.specs.Runs.{IsOfFiles, IsAnswer, IsAnswerTo, AsksFor, Asks};
 
-use crate::words::{Command, read_words};
-use equation_file::MOST_BYTES;
+use crate::reading::read_files;
+use crate::words::read_words;
 use std::alloc::Global;
-use wb_outside::{Files, OutsideError, Sink};
-use workbench_core::{Refusal, check, print_refusal, trees_of};
-
-// One byte more than a file may have, so that a longer file is not taken for one that has as many.
-const MOST_FILE_BYTES: usize = MOST_BYTES + 1;
+use wb_outside::{Files, Sink};
+use workbench_core::{FixedRefusal, Output, Refusal, Request, answer_for, print_refusal};
 
 /// How the program ends: 0 where the answer was written whole, else the number of the refusal.
 #[derive(Clone, Copy, Debug, PartialEq, Eq)]
@@ -32,124 +31,120 @@ pub fn workbench<F: Files, O: Sink, E: Sink>(
     out: &mut O,
     err: &mut E,
 ) -> Status
-    // The causes of the faults.
-    ensures words { result.code ≡ 2 ↔ IsNoCommand (map string_bytes words.now) }
+    // Status 2, and the causes of the faults.
+    ensures words { result.code ≡ 2 ↔ IsNoRequest (map string_bytes words.now) }
     ensures file_fault { result.code ≡ 3 → Rose (F.faults files.old) (F.faults files.new) }
-    ensures write_fault { result.code ≡ 15 → Rose (O.faults out.old) (O.faults out.new) }
+    ensures write_fault { result.code ≡ 15 → Rose (O.faults out.old) (O.faults out.new) ⊎ Rose (E.faults err.old) (E.faults err.new) }
 
-    // The answer: each sink gets a front of its part, and the whole unless its count rose.
-    ensures answer { (a : Answer) × IsAnswerTo (map string_bytes words.now) (F.text files.old) a × (result.code ≡ a.status)
-        × Gets (O.told out.old) (O.told out.new) (O.faults out.old) (O.faults out.new) a.out
-        × Gets (E.told err.old) (E.told err.new) (E.faults err.old) (E.faults err.new) a.err }
+    // The answer, and how it reaches the output and the error stream.
+    ensures answer { (a : Answer) × IsAnswerTo (map string_bytes words.now) (F.text files.old) a
+        × IsDelivered a result.code (writing O.told O.faults out.old out.new) (writing E.told E.faults err.old err.new) }
 
-    // The answers of the commands for a told file, where nothing failed.
-    ensures check { (name text : List ℕ) → IsCommand (map string_bytes words.now) Command.Check name → F.text files.old name ≡ Some text
-        → (Rose (F.faults files.old) (F.faults files.new) → ⊥) → (Rose (O.faults out.old) (O.faults out.new) → ⊥) → (result.code ≡ 17 → ⊥)
-        → (r : Result (List ℕ) Refusal) × IsChecked text r × (result.code ≡ (of_result r).status)
-        × Grows (O.told out.old) (O.told out.new) (of_result r).out
-        × ((Rose (E.faults err.old) (E.faults err.new) → ⊥) → Grows (E.told err.old) (E.told err.new) (of_result r).err) }
-    ensures trees { (name text : List ℕ) → IsCommand (map string_bytes words.now) Command.Trees name → F.text files.old name ≡ Some text
-        → (Rose (F.faults files.old) (F.faults files.new) → ⊥) → (Rose (O.faults out.old) (O.faults out.new) → ⊥) → (result.code ≡ 17 → ⊥)
-        → (r : Result (List ℕ) Refusal) × IsTreesOf text r × (result.code ≡ (of_result r).status)
-        × Grows (O.told out.old) (O.told out.new) (of_result r).out
-        × ((Rose (E.faults err.old) (E.faults err.new) → ⊥) → Grows (E.told err.old) (E.told err.new) (of_result r).err) }
+    // What a request gives for files that are told, unless one could not be read or there was no memory.
+    ensures told { (r : Request) (texts : List (List ℕ)) → IsRequest (map string_bytes words.now) r → map (F.text files.old) (files_of r) ≡ map Some texts
+        → result.code ≢ 3 → result.code ≢ 17
+        → (a : Answer) × IsGiven r texts a × IsDelivered a result.code (writing O.told O.faults out.old out.new) (writing E.told E.faults err.old err.new) }
 
     // The names that are asked for.
     ensures asked { Asks (map string_bytes words.now) result.code (F.asked files.old) (F.asked files.new) }
 {
     match read_words(words) {
-        Some(request) => run(alloc, request.command, request.name, files, out, err),
-        None => refuse(2, b"refused 2 Words\n", err),
+        Some(request) => run(alloc, &request, files, out, err),
+        None => refuse(FixedRefusal::Words, err),
     }
 }
 
-// A command on the named file.
+// A request.
 fn run<F: Files, O: Sink, E: Sink>(
     alloc: Global,
-    command: Command,
-    name: &str,
+    request: &Request<'_>,
     files: &mut F,
     out: &mut O,
     err: &mut E,
 ) -> Status
     ensures never { result.code ≢ 2 }
     ensures file_fault { result.code ≡ 3 → Rose (F.faults files.old) (F.faults files.new) }
-    ensures write_fault { result.code ≡ 15 → Rose (O.faults out.old) (O.faults out.new) }
-    ensures answer { (a : Answer) × IsAnswer command (F.text files.old name.now) a × (result.code ≡ a.status)
-        × Gets (O.told out.old) (O.told out.new) (O.faults out.old) (O.faults out.new) a.out
-        × Gets (E.told err.old) (E.told err.new) (E.faults err.old) (E.faults err.new) a.err }
-    ensures asked { AsksFor name.now result.code (F.asked files.old) (F.asked files.new) }
+    ensures write_fault { result.code ≡ 15 → Rose (O.faults out.old) (O.faults out.new) ⊎ Rose (E.faults err.old) (E.faults err.new) }
+    ensures answer { (a : Answer) × IsAnswer request.now (F.text files.old) a
+        × IsDelivered a result.code (writing O.told O.faults out.old out.new) (writing E.told E.faults err.old err.new) }
+    ensures asked { AsksFor (files_of request.now) (result.code ≡ 3) (result.code ≡ 17) (F.asked files.old) (F.asked files.new) }
 {
-    match answer(alloc, command, name, files) {
-        Ok(text) => write_answer(&text, out, err),
+    match answer(alloc, request, files) {
+        Ok(output) => write_output(&output, out, err),
         Err(refusal) => write_refusal(alloc, &refusal, err),
     }
 }
 
-// What a command gives for the named file. Until there is a store a project is the file of its name.
-fn answer<F: Files>(
-    alloc: Global,
-    command: Command,
-    name: &str,
-    files: &mut F,
-) -> Result<Vec<u8>, Refusal>
-    ensures text { IfOk result (λ v. IsOfFile command (F.text files.old name.now) (Ok v.items)) }
-    ensures refused { IfErr result (λ e. (e ≡ Refusal.FileFault) ⊎ (e ≡ Refusal.Memory) ⊎ IsOfFile command (F.text files.old name.now) (Err e)) }
+// What a request gives.
+fn answer<F: Files>(alloc: Global, request: &Request<'_>, files: &mut F) -> Result<Output, Refusal>
+    ensures given { IfOk result (λ o. IsOfFiles request.now (F.text files.old) (of_output o)) }
+    ensures refused { IfErr result (λ e. (e ≡ Refusal.FileFault) ⊎ (e ≡ Refusal.Memory) ⊎ IsOfFiles request.now (F.text files.old) (of_refusal e)) }
     ensures cause { IfErr result (λ e. e ≡ Refusal.FileFault → Rose (F.faults files.old) (F.faults files.new)) }
-    ensures asked { Lengthens (F.asked files.old) (F.asked files.new) (name.now ∷ []) ⊎ ((result ≡ Err Refusal.Memory) × Lengthens (F.asked files.old) (F.asked files.new) []) }
+    ensures asked { OnOk result (Lengthens (F.asked files.old) (F.asked files.new) (files_of request.now)) }
+    ensures stopped { IfErr result (λ e. AsksFor (files_of request.now) (e ≡ Refusal.FileFault) (e ≡ Refusal.Memory) (F.asked files.old) (F.asked files.new)) }
 {
-    let bytes = match files.open_text(alloc, name, MOST_FILE_BYTES) {
-        Ok(bytes) => bytes,
-        Err(OutsideError::Failed) => return Err(Refusal::FileFault),
-        Err(OutsideError::Memory) => return Err(Refusal::Memory),
-    };
-    given(alloc, command, &bytes)
+    let names = request.files(alloc)?;
+    let texts = read_files(alloc, &names, files)?;
+    answer_for(alloc, request, &texts)
 }
 
-// What a command gives for the bytes of a file.
-fn given(alloc: Global, command: Command, file: &[u8]) -> Result<Vec<u8>, Refusal>
-    ensures text { IfOk result (λ v. Gives command file.now (Ok v.items)) }
-    ensures refused { IfErr result (λ e. (e ≡ Refusal.Memory) ⊎ Gives command file.now (Err e)) }
+// What a command that is not refused writes.
+fn write_output<O: Sink, E: Sink>(output: &Output, out: &mut O, err: &mut E) -> Status
+    ensures code { (result.code ≡ 0) ⊎ (result.code ≡ 15) }
+    ensures delivered { IsDelivered (of_output output.now) result.code (writing O.told O.faults out.old out.new) (writing E.told E.faults err.old err.new) }
 {
-    match command {
-        Command::Check => check(alloc, file),
-        Command::Trees => trees_of(alloc, file),
+    match out.write(&output.out) {
+        Ok(()) => write_note(&output.err, err),
+        Err(_) => refuse(FixedRefusal::WriteFault, err),
     }
 }
 
-// The text on the output.
-fn write_answer<O: Sink, E: Sink>(text: &[u8], out: &mut O, err: &mut E) -> Status
-    ensures code { (result.code ≡ 0) ⊎ ((result.code ≡ 15) × Rose (O.faults out.old) (O.faults out.new)) }
-    ensures answer { (a : Answer) × ((a ≡ of_result (Ok text.now)) ⊎ (a ≡ of_write_fault text.now)) × (result.code ≡ a.status)
-        × Gets (O.told out.old) (O.told out.new) (O.faults out.old) (O.faults out.new) a.out
-        × Gets (E.told err.old) (E.told err.new) (E.faults err.old) (E.faults err.new) a.err }
+// What a command has for the error stream beside its answer.
+fn write_note<E: Sink>(note: &[u8], err: &mut E) -> Status
+    ensures { ((result.code ≡ 0) × Grows (E.told err.old) (E.told err.new) note.now)
+        ⊎ ((result.code ≡ 15) × (note.now ≢ []) × Rose (E.faults err.old) (E.faults err.new) × GrowsByFront (E.told err.old) (E.told err.new) note.now) }
 {
-    match out.write(text) {
+    if note.is_empty() {
+        return Status { code: 0 };
+    }
+    match err.write(note) {
         Ok(()) => Status { code: 0 },
-        Err(_) => refuse(15, b"refused 15 WriteFault\n", err),
-    }
-}
-
-// The line of a refusal on the error stream.
-fn write_refusal<E: Sink>(alloc: Global, refusal: &Refusal, err: &mut E) -> Status
-    ensures code { (result.code ≡ status_of refusal.now) ⊎ (result.code ≡ 17) }
-    ensures answer { (e : Refusal) × ((e ≡ refusal.now) ⊎ (e ≡ Refusal.Memory)) × (result.code ≡ status_of e)
-        × Gets (E.told err.old) (E.told err.new) (E.faults err.old) (E.faults err.new) (line_of e) }
-{
-    match refusal {
-        Refusal::FileFault => refuse(3, b"refused 3 FileFault\n", err),
-        Refusal::Memory => refuse(17, b"refused 17 Memory\n", err),
-        _ => match print_refusal(alloc, refusal) {
-            Ok(line) => refuse(refusal.status(), &line, err),
-            Err(_) => refuse(17, b"refused 17 Memory\n", err),
+        Err(_) => Status {
+            code: FixedRefusal::WriteFault.status(),
         },
     }
 }
 
+// The line of a refusal on the error stream. The one of want of memory, where there is none for another.
+fn write_refusal<E: Sink>(alloc: Global, refusal: &Refusal, err: &mut E) -> Status
+    ensures refused { result.code ≢ 0 }
+    ensures words { result.code ≢ 2 }
+    ensures file_fault { result.code ≡ 3 → refusal.now ≡ Refusal.FileFault }
+    ensures write_fault { result.code ≢ 15 }
+    ensures line { (e : Refusal) × ((e ≡ refusal.now) ⊎ (e ≡ Refusal.Memory)) × (result.code ≡ status_of e) × Gets (writing E.told E.faults err.old err.new) (line_of e) }
+{
+    let code = refusal.status();
+    match refusal.fixed() {
+        Some(fixed) => put_line(code, fixed.line(), err),
+        None => match print_refusal(alloc, refusal) {
+            Ok(line) => put_line(code, &line, err),
+            Err(_) => refuse(FixedRefusal::Memory, err),
+        },
+    }
+}
+
+// A refusal with a fixed line.
+fn refuse<E: Sink>(refusal: FixedRefusal, err: &mut E) -> Status
+    ensures code { result.code ≡ fixed_status refusal }
+    ensures line { Gets (writing E.told E.faults err.old err.new) (fixed_line refusal) }
+{
+    put_line(refusal.status(), refusal.line(), err)
+}
+
 // A line on the error stream, and the status. It stays where the line can't be written.
-fn refuse<E: Sink>(code: u8, line: &[u8], err: &mut E) -> Status
+fn put_line<E: Sink>(code: u8, line: &[u8], err: &mut E) -> Status
     ensures code { result.code ≡ code }
-    ensures line { Gets (E.told err.old) (E.told err.new) (E.faults err.old) (E.faults err.new) line.now }
+    ensures line { Gets (writing E.told E.faults err.old err.new) line.now }
 {
     let _ = err.write(line);
     Status { code }

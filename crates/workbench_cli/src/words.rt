@@ -1,40 +1,23 @@
 // The words of the command line.
-ghost use Rattle.std.specs.Prelude.{◌≡◌, ◌≢◌, ◌∷◌, [], ℕ, List, IfSome, IfNone, string_bytes, map, length};
+ghost use Rattle.std.specs.Prelude.{◌≡◌, ◌≢◌, ◌∷◌, [], ℕ, ◌<◌, ◌^◌, Some, true, false, decimal, bytes_eq, IfSome, IfNone, string_bytes, map, length};
 ghost use Rattle.std.specs.List.{list_all};
-ghost use Rattle.workbench_cli.specs.Words.{word_of, takes, is_file_word, is_project_start, is_project_byte, is_project_word, IsCommand, IsNoCommand};
+ghost use Rattle.workbench_core.specs.Requests.{is_file_word, is_project_start, is_project_byte, is_project_word, IsRequest, IsNoRequest};
+ghost use Rattle.workbench_cli.specs.Numbers.{IsNumber};
+
+use itoa::Buffer;
+use workbench_core::{Request, Word};
 
 const MOST_FILE_NAME_BYTES: usize = 4096;
 
 const MOST_PROJECT_NAME_BYTES: usize = 32;
 
-/// What the program can do.
-#[derive(Clone, Copy, Debug, PartialEq, Eq)]
-pub enum Command {
-    /// `check FILE`: the check text of a file.
-    Check,
-    /// `trees NAME`: the tree list of a project.
-    Trees,
-}
-
-/// A command with the name that it takes.
-#[derive(Clone, Copy, Debug, PartialEq, Eq)]
-pub struct Request<'a> {
-    pub command: Command,
-    pub name: &'a str,
-}
-
 // What the words ask for.
 pub fn read_words(words: &[String]) -> Option<Request<'_>>
-    ensures found { IfSome result (λ request. IsCommand (map string_bytes words.now) request.command request.name.now) }
-    ensures none { IfNone result (IsNoCommand (map string_bytes words.now)) }
+    ensures found { IfSome result (λ r. IsRequest (map string_bytes words.now) r) }
+    ensures none { IfNone result (IsNoRequest (map string_bytes words.now)) }
 {
-    let (word, name) = pair_of(words)?;
-    let command = command_of(word)?;
-    if takes(command, name) {
-        Some(Request { command, name })
-    } else {
-        None
-    }
+    let (command, name) = pair_of(words)?;
+    read_pair(command, name)
 }
 
 // The words, where they are two.
@@ -49,31 +32,46 @@ fn pair_of(words: &[String]) -> Option<(&str, &str)>
     }
 }
 
-// The command with this word.
-fn command_of(word: &str) -> Option<Command>
-    ensures some { IfSome result (λ command. word.now ≡ word_of command) }
-    ensures none { IfNone result ((command : Command) → word.now ≢ word_of command) }
+// What a command with one name asks for.
+fn read_pair<'a>(command: &str, name: &'a str) -> Option<Request<'a>>
+    ensures found { IfSome result (λ r. IsRequest (command.now ∷ name.now ∷ []) r) }
+    ensures none { IfNone result (IsNoRequest (command.now ∷ name.now ∷ [])) }
 {
-    if word == "check" {
-        Some(Command::Check)
-    } else if word == "trees" {
-        Some(Command::Trees)
+    if command == "check" {
+        let file = file_word(name)?;
+        Some(Request::Check { file })
+    } else if command == "trees" {
+        let name = project_word(name)?;
+        Some(Request::Trees { name })
     } else {
         None
     }
 }
 
-// Whether the command takes the word as a name.
-fn takes(command: Command, word: &str) -> bool
-    ensures { result ≡ takes command word.now }
+// The word, where it can name a file.
+fn file_word(word: &str) -> Option<Word<'_>>
+    ensures word { IfSome result (λ w. (w ≡ word.now) × (is_file_word word.now ≡ true)) }
+    ensures none { IfNone result (is_file_word word.now ≡ false) }
 {
-    match command {
-        Command::Check => is_file_word(word.as_bytes()),
-        Command::Trees => is_project_word(word.as_bytes()),
+    if is_file_word(word.as_bytes()) {
+        Some(Word::new(word))
+    } else {
+        None
     }
 }
 
-// Whether the word can name a file.
+// The word, where it can name a project.
+fn project_word(word: &str) -> Option<Word<'_>>
+    ensures word { IfSome result (λ w. (w ≡ word.now) × (is_project_word word.now ≡ true)) }
+    ensures none { IfNone result (is_project_word word.now ≡ false) }
+{
+    if is_project_word(word.as_bytes()) {
+        Some(Word::new(word))
+    } else {
+        None
+    }
+}
+
 fn is_file_word(word: &[u8]) -> bool
     ensures { result ≡ is_file_word word.now }
 {
@@ -83,7 +81,6 @@ fn is_file_word(word: &[u8]) -> bool
     }
 }
 
-// Whether the word can name a project.
 fn is_project_word(word: &[u8]) -> bool
     ensures { result ≡ is_project_word word.now }
 {
@@ -113,4 +110,38 @@ fn are_project_bytes(bytes: &[u8]) -> bool
     ensures { result ≡ list_all is_project_byte bytes.now }
 {
     bytes.iter().all(|byte| is_project_byte(*byte))
+}
+
+/// The number that a word writes in decimal digits without leading zeros, where it is one of `least` to `most`.
+pub fn read_number(word: &str, least: u32, most: u32) -> Option<u32>
+    ensures found { IfSome result (λ n. IsNumber least most word.now n) }
+    ensures none { IfNone result ((n : ℕ) → IsNumber least most word.now n → ⊥) }
+{
+    let number = parsed(word)?;
+    if number < least || most < number {
+        return None;
+    }
+    if writes(word.as_bytes(), number) {
+        Some(number)
+    } else {
+        None
+    }
+}
+
+// The number that a word writes, maybe with a sign or leading zeros.
+#[tactic(auto, using(crate::proofs::NumberLemmas::parse_back))]
+fn parsed(word: &str) -> Option<u32>
+    ensures { (n : ℕ) → n < 2 ^ 32 → word.now ≡ decimal n → result ≡ Some n }
+{
+    match word.parse() {
+        Ok(number) => Some(number),
+        Err(_) => None,
+    }
+}
+
+// Whether these are the digits of the number.
+fn writes(word: &[u8], number: u32) -> bool
+    ensures { result ≡ bytes_eq word.now (decimal number) }
+{
+    Buffer::new().format(number).as_bytes() == word
 }

@@ -2,7 +2,7 @@
 use Rattle.std.proofs.Common.{◌≡◌, ◌<◌, ℕ, List, length, take, nat_lt, true, false, Result, Err, pos, arith, refl, sym, ap, ◌∙◌, subst, lt-ltb, ltb-true, ltb-false}
 use Rattle.std.proofs.lemmas.List.{length-take, take_all}
 use Rattle.equation_document.specs.declared.fault.Which.TheVariants.{Bytes}
-use Rattle.equation_file.specs.declared.equation.Equation.{Equation}
+use Rattle.equations.specs.declared.equation.Equation.{Equation}
 use Rattle.equation_file.specs.declared.refusal.FileRefusal.TheVariants.{Limit}
 use Rattle.equation_file.specs.File.{equation_of}
 use Rattle.workbench_core.specs.Files.{IsForRead, IsForFile}
@@ -21,5 +21,5 @@ equation_of-take text =
       | false ↦ λ short. ap equation_of (take_all 65537 text (omega (arith, ltb-false _ _ short)))
     ] refl
 
-pub IsForFile-take : (answers : Equation → Result (List ℕ) Refusal → Type 0) (text : List ℕ) (r : Result (List ℕ) Refusal) → IsForFile answers (take 65537 text) r → IsForFile answers text r
+pub IsForFile-take : {T : Type 0} (answers : Equation → Result T Refusal → Type 0) (text : List ℕ) (r : Result T Refusal) → IsForFile answers (take 65537 text) r → IsForFile answers text r
 IsForFile-take answers text r h = subst (λ read. IsForRead answers read r) (equation_of-take text) h

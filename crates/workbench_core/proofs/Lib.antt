@@ -1,8 +1,9 @@
-mod Completions
+pub mod CompletedLemmas
+mod Digits
 pub mod FileLemmas
+pub mod Fronts
 mod KernelRows
-pub mod NoFault
 mod PoolTrees
-pub mod Statuses
+pub mod RequestLemmas
 mod TextLemmas
 mod TreeRows

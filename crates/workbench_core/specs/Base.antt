@@ -10,7 +10,7 @@ use Rattle.std.specs.List.{find}
 use Rattle.std.specs.Option.{option_map, option_and_then}
 use Rattle.degree_numbers.specs.declared.types.Types.{Types}
 use Rattle.degree_numbers.specs.Types.{name_of}
-use Rattle.equation_file.specs.declared.equation.Equation.{Equation}
+use Rattle.equations.specs.declared.equation.Equation.{Equation}
 use Rattle.normal_rule.specs.declared.regularity.NotSubcritical.{NotSubcritical as Failure}
 use Rattle.normal_rule.specs.declared.rule.NodeType.{NodeType}
 use Rattle.normal_rule.specs.declared.rule.Rule.{Rule}
@@ -47,5 +47,5 @@ abbrev pub IsRefusedRule : Equation → Refusal → Type 0
 IsRefusedRule eq e =
     (rule : Rule) × IsNormalRule eq rule × (((2000 < node_count rule) × (e ≡ RuleTooLarge 0)) ⊎ ((node_count rule ≤ 2000) × IsNotSubcritical eq rule e))
 
-abbrev pub IsForBase : (Rule → Result (List ℕ) Refusal → Type 0) → Equation → Result (List ℕ) Refusal → Type 0
+abbrev pub IsForBase : {T : Type 0} → (Rule → Result T Refusal → Type 0) → Equation → Result T Refusal → Type 0
 IsForBase answers eq r = ((rule : Rule) × IsBase eq rule × answers rule r) ⊎ ((e : Refusal) × IsRefusedRule eq e × (r ≡ Err e))

@@ -3,7 +3,7 @@
 --   IsVerdict eq r == r is that for the rule with which eq begins, or the refusal of its normal rule
 --   IsChecked file r == r is the verdict on the equation that the file writes down, or the refusal of a file that writes down none
 use Rattle.std.specs.Prelude.{◌≡◌, ℕ, ℤ, List, Result, Ok}
-use Rattle.equation_file.specs.declared.equation.Equation.{Equation}
+use Rattle.equations.specs.declared.equation.Equation.{Equation}
 use Rattle.normal_rule.specs.declared.rule.Rule.{Rule}
 use Rattle.normal_rule.specs.Regularity.{IsGap}
 use Rattle.workbench_core.specs.declared.refusal.Refusal.{Refusal}

@@ -1,7 +1,11 @@
+pub mod Answers
 pub mod Base
 pub mod Check
 pub mod CheckText
+pub mod Completed
 pub mod Files
+pub mod Fixed
 pub mod Refusals
+pub mod Requests
 pub mod TreeList
 pub mod Trees

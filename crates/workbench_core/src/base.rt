@@ -1,9 +1,9 @@
 // The normal rule with which an equation begins.
-ghost use Rattle.std.specs.Prelude.{◌≡◌, ◌⊎◌, ◌<◌, ◌≤◌, ℕ, List, [], length, pos, IfOk, IfErr, IfSome};
+ghost use Rattle.std.specs.Prelude.{◌≡◌, ◌≢◌, ◌⊎◌, ◌<◌, ◌≤◌, ℕ, List, [], length, pos, IfOk, IfErr, IfSome};
 ghost use Rattle.std.specs.List.{find};
 ghost use Rattle.std.specs.Option.{option_map, option_and_then};
 ghost use Rattle.degree_numbers.specs.Types.{AreTypes};
-ghost use Rattle.equation_file.specs.Accepted.{IsEquation};
+ghost use Rattle.equations.specs.Accepted.{IsEquation};
 ghost use Rattle.normal_rule.specs.Regularity.{IsFirstFailure, IsGap, HasRows, AreMeasured};
 ghost use Rattle.normal_rule.specs.Text.{IsKnownNode, AreKnown};
 ghost use Rattle.workbench_core.specs.Base.{node_in, node_text_in, IsBase, IsNotSubcritical, IsRefusedRule};
@@ -11,7 +11,7 @@ ghost use Rattle.workbench_core.specs.Base.{node_in, node_text_in, IsBase, IsNot
 use crate::refusal::Refusal;
 use crate::text::{kernel_name, side_text};
 use degree_numbers::{Degree, TypeId, Types};
-use equation_file::Equation;
+use equations::Equation;
 use normal_rule::{
     NodeType, NotSubcritical, Rule, RuleRefusal, RuleRow, check_regularity, normal_rule,
     put_node_type,
@@ -35,6 +35,7 @@ pub fn base_rule(alloc: Global, eq: &Equation) -> Result<BaseRule, Refusal>
     ensures measured { IfOk result (λ base. AreMeasured base.rule.rows) }
     ensures known { IfOk result (λ base. AreKnown eq.now.types base.rule.rows) }
     ensures refused { IfErr result (λ e. (e ≡ Refusal.Memory) ⊎ IsRefusedRule eq.now e) }
+    ensures no_fault { result ≢ Err Refusal.FileFault }
 {
     let rule = match normal_rule(alloc, eq) {
         Ok(rule) => rule,
@@ -58,7 +59,8 @@ fn not_subcritical(
     requires rows { HasRows eq.now rule.now }
     requires known { AreKnown eq.now.types rule.now.rows }
     requires failure { IsFirstFailure eq.now rule.now.rows failure.now }
-    ensures { IfOk result (λ e. IsNotSubcritical eq.now rule.now e) }
+    ensures failing { IfOk result (λ e. IsNotSubcritical eq.now rule.now e) }
+    ensures no_fault { IfOk result (λ e. e ≢ Refusal.FileFault) }
 {
     let left = side_text(eq, failure.left);
     let right = side_text(eq, failure.right);

@@ -1,16 +1,24 @@
-//! What the commands answer: the check of a file, and the listed trees of its completed rule.
+//! What the program can be asked for, and what the commands answer: the check of a file, and the listed trees of its completed rule.
 #![tactic(auto)]
 
+mod answer;
 mod base;
+mod completed;
+mod fixed;
 mod lines;
 mod refusal;
+mod request;
 mod text;
 mod tree_list;
 mod trees;
 mod verdict;
 
+pub use answer::{Output, answer_for};
+pub use completed::{Completed, complete_file};
+pub use fixed::FixedRefusal;
 pub use lines::print_refusal;
-pub use refusal::Refusal;
+pub use refusal::{Refusal, TreeReason};
+pub use request::{Request, Word};
 pub use text::check_text;
 pub use trees::trees_of;
 pub use verdict::{check, verdict_on};

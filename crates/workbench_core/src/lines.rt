@@ -1,8 +1,9 @@
 // The lines of refusals.
-ghost use Rattle.std.specs.Prelude.{◌≡◌, ◌++◌, codes, IfOk, IfErr, OnOk};
-ghost use Rattle.workbench_core.specs.Refusals.{reason_text, which_text, stage_text, line_of};
+ghost use Rattle.std.specs.Prelude.{◌≡◌, ◌++◌, codes, decimal, IfOk, IfErr, OnOk};
+ghost use Rattle.std.specs.Fmt.{signed_decimal};
+ghost use Rattle.workbench_core.specs.Refusals.{reason_text, which_text, field, reason_of_tree, fields_of, line_of};
 
-use crate::refusal::Refusal;
+use crate::refusal::{Refusal, TreeReason};
 use equation_file::{Reason, Which};
 use itoa::Buffer;
 use std::alloc::{AllocError, Global};
@@ -28,6 +29,7 @@ fn reason_text(reason: Reason) -> &'static [u8]
         Reason::Degree => b"degree",
         Reason::Polynomial => b"polynomial",
         Reason::Noise => b"noise",
+        Reason::Version => b"version",
     }
 }
 
@@ -51,67 +53,123 @@ fn which_text(which: Which) -> &'static [u8]
     }
 }
 
-// The line of a refusal that names a stage.
-fn stage_line(alloc: Global, name: &[u8], stage: u32) -> Result<Vec<u8>, AllocError>
-    ensures { IfOk result (λ v. v.items ≡ stage_text name.now stage) }
+fn line(alloc: Global, refusal: &Refusal) -> Result<Vec<u8>, AllocError>
+    ensures { IfOk result (λ v. v.items ≡ line_of refusal.now) }
 {
-    let mut line = Vec::from_slice(alloc, b"refused 7 ")?;
-    line.extend_from_slice(name)?;
+    let mut line = Vec::from_slice(alloc, b"refused ")?;
+    line.extend_from_slice(Buffer::new().format(refusal.status()).as_bytes())?;
     line.extend_from_slice(b" ")?;
-    line.extend_from_slice(Buffer::new().format(stage).as_bytes())?;
+    line.extend_from_slice(refusal.name())?;
+    put_fields(refusal, &mut line)?;
     line.extend_from_slice(b"\n")?;
     Ok(line)
 }
 
-fn line(alloc: Global, refusal: &Refusal) -> Result<Vec<u8>, AllocError>
-    ensures { IfOk result (λ v. v.items ≡ line_of refusal.now) }
+fn put_text(text: &[u8], line: &mut Vec<u8>) -> Result<(), AllocError>
+    ensures { OnOk result (line.new.items ≡ line.old.items ++ field text.now) }
+{
+    line.extend_from_slice(b" ")?;
+    line.extend_from_slice(text)
+}
+
+fn put_number(number: u64, line: &mut Vec<u8>) -> Result<(), AllocError>
+    ensures { OnOk result (line.new.items ≡ line.old.items ++ field (decimal number)) }
+{
+    put_text(Buffer::new().format(number).as_bytes(), line)
+}
+
+fn put_limit(which: Which, count: i64, line: &mut Vec<u8>) -> Result<(), AllocError>
+    ensures { OnOk result (line.new.items ≡ line.old.items ++ field (which_text which) ++ field (signed_decimal count)) }
+{
+    put_text(which_text(which), line)?;
+    put_text(Buffer::new().format(count).as_bytes(), line)
+}
+
+fn put_two(first: &[u8], second: &[u8], line: &mut Vec<u8>) -> Result<(), AllocError>
+    ensures { OnOk result (line.new.items ≡ line.old.items ++ field first.now ++ field second.now) }
+{
+    put_text(first, line)?;
+    put_text(second, line)
+}
+
+fn put_numbered(name: &[u8], number: u64, line: &mut Vec<u8>) -> Result<(), AllocError>
+    ensures { OnOk result (line.new.items ≡ line.old.items ++ field (name.now ++ field (decimal number))) }
+{
+    put_text(name, line)?;
+    put_number(number, line)
+}
+
+// Why a tree text is refused.
+fn put_reason(reason: TreeReason, line: &mut Vec<u8>) -> Result<(), AllocError>
+    ensures { OnOk result (line.new.items ≡ line.old.items ++ field (reason_of_tree reason)) }
+{
+    match reason {
+        TreeReason::TreeText { place } => put_numbered(b"TreeText", place, line),
+        TreeReason::UnknownType { place } => put_numbered(b"UnknownType", place, line),
+        TreeReason::TooManyEdges { count } => put_numbered(b"TooManyEdges", count, line),
+        TreeReason::TooManyDecorations { total } => {
+            put_numbered(b"TooManyDecorations", u64::from(total), line)
+        }
+        TreeReason::NotCanonical => put_text(b"NotCanonical", line),
+        TreeReason::NotPositive => put_text(b"NotPositive", line),
+    }
+}
+
+// A stored value and the computed one, in lines of their own.
+fn put_values(stored: &[u8], computed: &[u8], line: &mut Vec<u8>) -> Result<(), AllocError>
+    ensures { OnOk result (line.new.items ≡ line.old.items ++ codes "\nstored" ++ field stored.now ++ codes "\ncomputed" ++ field computed.now) }
+{
+    line.extend_from_slice(b"\nstored")?;
+    put_text(stored, line)?;
+    line.extend_from_slice(b"\ncomputed")?;
+    put_text(computed, line)
+}
+
+// What the line of a refusal says besides its status and its name.
+fn put_fields(refusal: &Refusal, line: &mut Vec<u8>) -> Result<(), AllocError>
+    ensures { OnOk result (line.new.items ≡ line.old.items ++ fields_of refusal.now) }
 {
     match refusal {
-        Refusal::FileFault => Vec::from_slice(alloc, b"refused 3 FileFault\n"),
-        Refusal::NotUtf8 => Vec::from_slice(alloc, b"refused 4 NotUtf8\n"),
-        Refusal::NotToml => Vec::from_slice(alloc, b"refused 4 NotToml\n"),
-        Refusal::Memory => Vec::from_slice(alloc, b"refused 17 Memory\n"),
-        Refusal::Malformed { entry, reason } => {
-            let mut line = Vec::from_slice(alloc, b"refused 4 Malformed ")?;
-            line.extend_from_slice(entry.as_slice())?;
-            line.extend_from_slice(b" ")?;
-            line.extend_from_slice(reason_text(*reason))?;
-            line.extend_from_slice(b"\n")?;
-            Ok(line)
-        }
-        Refusal::Limit { which, count } => {
-            let mut line = Vec::from_slice(alloc, b"refused 5 Limit ")?;
-            line.extend_from_slice(which_text(*which))?;
-            line.extend_from_slice(b" ")?;
-            line.extend_from_slice(Buffer::new().format(*count).as_bytes())?;
-            line.extend_from_slice(b"\n")?;
-            Ok(line)
-        }
+        Refusal::FileFault | Refusal::NotUtf8 | Refusal::NotToml => Ok(()),
+        Refusal::Full | Refusal::StoreFault | Refusal::Memory | Refusal::OldStore => Ok(()),
+        Refusal::Malformed { entry, reason } => put_two(
+            entry.as_slice(),
+            reason_text(*reason),
+            line,
+        ),
+        Refusal::Limit { which, count } => put_limit(*which, *count, line),
         Refusal::NotSubcritical {
             kernel,
             node,
             left,
             right,
         } => {
-            let mut line = Vec::from_slice(alloc, b"refused 6 NotSubcritical ")?;
-            line.extend_from_slice(kernel.as_slice())?;
-            line.extend_from_slice(b" ")?;
-            line.extend_from_slice(node.as_slice())?;
-            line.extend_from_slice(b" ")?;
-            line.extend_from_slice(left.as_slice())?;
-            line.extend_from_slice(b" ")?;
-            line.extend_from_slice(right.as_slice())?;
-            line.extend_from_slice(b"\n")?;
-            Ok(line)
+            put_two(kernel.as_slice(), node.as_slice(), line)?;
+            put_two(left.as_slice(), right.as_slice(), line)
         }
-        Refusal::RuleTooLarge { stage } => stage_line(alloc, b"RuleTooLarge", *stage),
-        Refusal::TooManyTrees { stage } => stage_line(alloc, b"TooManyTrees", *stage),
-        Refusal::TreeTooLarge { stage } => stage_line(alloc, b"TreeTooLarge", *stage),
-        Refusal::ZeroDegree { tree } => {
-            let mut line = Vec::from_slice(alloc, b"refused 8 ZeroDegree ")?;
-            line.extend_from_slice(tree.as_slice())?;
-            line.extend_from_slice(b"\n")?;
-            Ok(line)
+        Refusal::RuleTooLarge { stage }
+        | Refusal::TooManyTrees { stage }
+        | Refusal::TreeTooLarge { stage } => put_number(u64::from(*stage), line),
+        Refusal::CoefficientTooLarge { tree, quantity } => {
+            put_two(tree.as_slice(), quantity.as_slice(), line)
         }
+        Refusal::ZeroDegree { tree }
+        | Refusal::StoredRow { tree, .. }
+        | Refusal::Missing { tree }
+        | Refusal::MetTooLarge { tree }
+        | Refusal::TooManyTriples { tree } => put_text(tree.as_slice(), line),
+        Refusal::NoProject { name } => put_text(name.as_slice(), line),
+        Refusal::Differs {
+            tree,
+            stored,
+            computed,
+        } => {
+            put_text(tree.as_slice(), line)?;
+            put_values(stored.as_slice(), computed.as_slice(), line)
+        }
+        Refusal::TreeRefused { reason } => put_reason(*reason, line),
+        Refusal::TableRefused { line: number } => put_number(*number, line),
+        Refusal::TooManyNoises { count } => put_number(u64::from(*count), line),
+        Refusal::StoredContext { context } => put_text(context.as_slice(), line),
     }
 }

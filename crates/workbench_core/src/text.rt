@@ -2,13 +2,13 @@
 ghost use Rattle.std.specs.Prelude.{◌≡◌, ◌++◌, ℕ, List, [], ◌∷◌, length, codes, decimal, pos, IfOk, OnOk};
 ghost use Rattle.std.specs.List.{All};
 ghost use Rattle.degree_numbers.specs.Types.{name_of};
-ghost use Rattle.equation_file.specs.Accepted.{IsEquation};
+ghost use Rattle.equations.specs.Accepted.{IsEquation};
 ghost use Rattle.normal_rule.specs.Regularity.{IsMeasuredNode, AreMeasured};
 ghost use Rattle.normal_rule.specs.Text.{node_type_text, IsKnownNode, AreKnown};
 ghost use Rattle.workbench_core.specs.CheckText.{line_text, sides_text, heading_text, IsSideText, IsLine, AreLines, IsRowText, AreRowTexts, IsCheckText};
 
 use degree_numbers::{Degree, SmallText, TypeId, Types, print_degree};
-use equation_file::Equation;
+use equations::Equation;
 use itoa::Buffer;
 use normal_rule::{NodeType, Rule, RuleRow, put_node_type, regularity_of, right_side};
 use std::alloc::{AllocError, Global};

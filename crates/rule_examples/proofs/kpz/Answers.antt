@@ -1,6 +1,6 @@
 use Rattle.std.proofs.Common.{◌≡◌, pos, sym, subst}
 use Rattle.std.proofs.lemmas.Result.{IfOk-weaker}
-use Rattle.equation_file.specs.Accepted.{IsEquation}
+use Rattle.equations.specs.Accepted.{IsEquation}
 use Rattle.rule_examples.specs.Known.{kpz_equation}
 use Rattle.rule_examples.proofs.KnownEquations.{kpz_at_one_half}
 use Rattle.rule_examples.proofs.kpz.Goals as goal

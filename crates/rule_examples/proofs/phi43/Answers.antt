@@ -1,6 +1,6 @@
 use Rattle.std.proofs.Common.{◌≡◌, pos, neg_ℤ, sym, subst}
 use Rattle.std.proofs.lemmas.Result.{IfOk-weaker}
-use Rattle.equation_file.specs.Accepted.{IsEquation}
+use Rattle.equations.specs.Accepted.{IsEquation}
 use Rattle.rule_examples.specs.Known.{phi43_equation}
 use Rattle.rule_examples.proofs.KnownEquations.{phi43_at_minus_one}
 use Rattle.rule_examples.proofs.phi43.Goals as goal

@@ -1,6 +1,6 @@
 use Rattle.std.proofs.Common.{◌≡◌, pos, sym, subst}
 use Rattle.std.proofs.lemmas.Result.{IfOk-weaker}
-use Rattle.equation_file.specs.Accepted.{IsEquation}
+use Rattle.equations.specs.Accepted.{IsEquation}
 use Rattle.rule_examples.specs.Known.{square_equation}
 use Rattle.rule_examples.proofs.KnownEquations.{square_at_zero}
 use Rattle.rule_examples.proofs.square.Goals as goal

@@ -9,12 +9,12 @@ pub returns-in_err-unknown : goal.returns-in_err-unknown
 unfolding unknowns_from
 returns-in_err-unknown c =
     let p = err_from_is_err_and c.from_residual.result c.from_residual.ensures.1 in
-    rw (p.1, p.2) (fails_too _ _ _ c.in_err-unknown.ensures (λ f e. sym c.loop-i.invariant ∙ ap (unknowns_from (c.loop-i.i + 1) c.loop-i.seen c.loop-i.found) (items_at c.args.values.now c.loop-i.i c.index-values-i.result c.loop-i-test.true c.index-values-i.is) ∙ rw (subst (λ xs. unknown_of (c.loop-i.i + 1) xs (view c.index-values-i.result) ≡ Err f) c.as_slice.ensures e) refl))
+    rw (p.1, p.2) (fails_too _ _ _ c.in_err-unknown.ensures (λ f e. sym c.loop-i.invariant ∙ ap (unknowns_from c.args.version (c.loop-i.i + 1) c.loop-i.seen c.loop-i.found) (items_at c.args.values.now c.loop-i.i c.index-values-i.result c.loop-i-test.true c.index-values-i.is) ∙ rw (subst (λ xs. unknown_of c.args.version (c.loop-i.i + 1) xs (view c.index-values-i.result) ≡ Err f) c.as_slice.ensures e) refl))
 
 pub loop-i-preserved : goal.loop-i-preserved
 unfolding unknowns_from
-loop-i-preserved c = sym (ap (unknowns_from (c.loop-i.i + 1) c.loop-i.seen c.loop-i.found) (items_at c.args.values.now c.loop-i.i c.index-values-i.result c.loop-i-test.true c.index-values-i.is) ∙ rw (subst (λ xs. unknown_of (c.loop-i.i + 1) xs (view c.index-values-i.result) ≡ Ok c.in_ok-unknown.unknown) c.as_slice.ensures c.in_ok-unknown.ensures, c.in_ok-push.ensures.ok, c.in_ok-push-2.ensures.ok) refl) ∙ c.loop-i.invariant
+loop-i-preserved c = sym (ap (unknowns_from c.args.version (c.loop-i.i + 1) c.loop-i.seen c.loop-i.found) (items_at c.args.values.now c.loop-i.i c.index-values-i.result c.loop-i-test.true c.index-values-i.is) ∙ rw (subst (λ xs. unknown_of c.args.version (c.loop-i.i + 1) xs (view c.index-values-i.result) ≡ Ok c.in_ok-unknown.unknown) c.as_slice.ensures c.in_ok-unknown.ensures, c.in_ok-push.ensures.ok, c.in_ok-push-2.ensures.ok) refl) ∙ c.loop-i.invariant
 
 pub returns : goal.returns
 unfolding unknowns_from
-returns c = sym c.loop-i.invariant ∙ ap (unknowns_from (c.loop-i.i + 1) c.loop-i.seen c.loop-i.found) (items_over c.args.values.now c.loop-i.i c.loop-i-test.false)
+returns c = sym c.loop-i.invariant ∙ ap (unknowns_from c.args.version (c.loop-i.i + 1) c.loop-i.seen c.loop-i.found) (items_over c.args.values.now c.loop-i.i c.loop-i-test.false)

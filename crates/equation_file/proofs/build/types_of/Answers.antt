@@ -16,8 +16,11 @@ add_noise_types-requires-clause-small c = ap (first_of noise_number) c.as_slice-
 pub add_kernel_types-requires-clause-small : goal.add_kernel_types-requires-clause-small
 add_kernel_types-requires-clause-small c = ap (first_of unknown_number) c.as_slice-4.ensures ∙ (is_within _ c.requires.limits).unknown_numbers
 
+pub reflect_of-requires : goal.reflect_of-requires
+reflect_of-requires c = omega (arith, c.len.ensures, (is_within _ c.requires.limits).dimensions)
+
 pub overflow_cast-result : goal.overflow_cast-result
 overflow_cast-result c = omega (arith, c.len.ensures, (is_within _ c.requires.limits).dimensions)
 
 pub five-requires : goal.five-requires
-five-requires c i = rw c.as_slice-5.ensures (none_index 10 c.args.document.now.scaling i (is_within _ c.requires.limits).scaling)
+five-requires c i = rw c.as_slice-6.ensures (none_index 10 c.args.document.now.scaling i (is_within _ c.requires.limits).scaling)

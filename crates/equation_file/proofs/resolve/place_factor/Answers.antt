@@ -1,7 +1,7 @@
 use Rattle.std.proofs.Common.{arith, not}
 use Rattle.std.specs.Ordering.{is_gt}
 use Rattle.std.proofs.lemmas.List.Sums.{prefix_len-le-length}
-use Rattle.equation_file.specs.EdgeTypes.{edge_type_order}
+use Rattle.equations.specs.EdgeTypes.{edge_type_order}
 use Rattle.equation_file.proofs.resolve.place_factor.Goals as goal
 
 pub insert-requires : goal.insert-requires

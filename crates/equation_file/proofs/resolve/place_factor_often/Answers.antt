@@ -1,5 +1,5 @@
 use Rattle.std.proofs.Common.{◌+◌, ◌-◌, sym, ◌∙◌, ap}
-use Rattle.equation_file.specs.EdgeTypes.{edge_type_order}
+use Rattle.equations.specs.EdgeTypes.{edge_type_order}
 use Rattle.equation_file.specs.Products.{placed_often}
 use Rattle.equation_file.proofs.PlacedLemmas.{often_step}
 use Rattle.equation_file.proofs.resolve.place_factor_often.Goals as goal

@@ -5,9 +5,11 @@ use Rattle.normal_rule.specs.declared.rule.RuleRefusal.TheVariants.{RuleTooLarge
 use Rattle.normal_rule.specs.Made.{rule_of}
 use Rattle.normal_rule.specs.Rule.{IsNormalRule, IsNormal, node_count}
 use Rattle.normal_rule.specs.declared.rule.Rule.{Rule}
+use Rattle.normal_rule.specs.OverTypes.{IsRule}
 use Rattle.normal_rule.specs.Regularity.{HasRows, AreMeasured}
 use Rattle.normal_rule.specs.Text.{AreKnown}
 use Rattle.normal_rule.proofs.Fits.{rule_rows, rule_measured, rule_known}
+use Rattle.normal_rule.proofs.OverTypes.{rule_over_types}
 use Rattle.normal_rule.proofs.RuleLaws.{rule_is, rule_normal}
 use Rattle.normal_rule.proofs.row.normal_rule.Goals as goal
 
@@ -40,3 +42,8 @@ pub returns-clause-known : goal.returns-clause-known
 returns-clause-known c =
     IfOk-weaker c.made.result (λ rule. rule ≡ rule_of c.args.eq.now) (λ rule. AreKnown c.args.eq.now.types rule.rows)
     (λ rule e. subst (λ (r : Rule). AreKnown c.args.eq.now.types r.rows) (sym e) (rule_known c.args.eq.now (rule_of c.args.eq.now) c.requires (rule_is c.args.eq.now c.requires))) c.made.ensures.rule
+
+pub returns-clause-over_types : goal.returns-clause-over_types
+returns-clause-over_types c =
+    IfOk-weaker c.made.result (λ rule. rule ≡ rule_of c.args.eq.now) (IsRule c.args.eq.now)
+    (λ rule e. subst (IsRule c.args.eq.now) (sym e) (rule_over_types c.args.eq.now (rule_of c.args.eq.now) c.requires (rule_is c.args.eq.now c.requires))) c.made.ensures.rule

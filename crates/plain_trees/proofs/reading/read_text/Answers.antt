@@ -1,3 +1,4 @@
+use Rattle.std.proofs.Common.{arith}
 use Rattle.plain_trees.specs.View.{plain}
 use Rattle.plain_trees.proofs.Readings.{built_is, no_canonical, no_text, true_is, false_not}
 use Rattle.plain_trees.proofs.reading.read_text.Goals as goal
@@ -7,6 +8,11 @@ is_canonical-requires c = (built_is c.args.types.now c.requires.types c.args.mos
 
 pub has_text-requires-clause-tree : goal.has_text-requires-clause-tree
 has_text-requires-clause-tree c = (built_is c.args.types.now c.requires.types c.args.most c.requires.most c.args.text.now (plain c.in_ok-t.t) c.in_ok-check_text.ensures.passes c.in_ok-t.ensures.tree).types_of
+
+pub has_text-requires-clause-small : goal.has_text-requires-clause-small
+has_text-requires-clause-small c =
+    let b = built_is c.args.types.now c.requires.types c.args.most c.requires.most c.args.text.now (plain c.in_ok-t.t) c.in_ok-check_text.ensures.passes c.in_ok-t.ensures.tree in
+    record { edges = b.edges; decorations = omega (arith, b.decorations, c.requires.most) }
 
 pub returns-then-not-is_canonical-clause-refusal : goal.returns-then-not-is_canonical-clause-refusal
 returns-then-not-is_canonical-clause-refusal c =

@@ -1,5 +1,6 @@
 use Rattle.std.proofs.Common.{◌≡◌, ◌++◌, ◌∷◌, [], drop, map}
 use Rattle.plain_trees.specs.Degree.{HasTypes}
+use Rattle.plain_trees.specs.Plain.{IsSmall}
 use Rattle.plain_trees.specs.Text.{edge_factors, tree_text}
 use Rattle.plain_trees.specs.View.{plain, labelled, grafted}
 use Rattle.plain_trees.specs.declared.tree.Tree.{out-Tree}
@@ -12,4 +13,5 @@ invariant-put_tree-loop-e l =
     record {
       text : l.out.items ++ (remaining l.is_first (edge_factors l.types rest) ++ 93 ∷ []) ≡ l.fn.out.items ++ tree_text l.types (plain l.t);
       tree : HasTypes l.types rest;
+      small : IsSmall rest;
     }

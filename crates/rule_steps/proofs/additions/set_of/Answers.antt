@@ -1,10 +1,14 @@
-use Rattle.std.proofs.Common.{◌≡◌, ◌∙◌, map, rules}
+use Rattle.std.proofs.Common.{◌≡◌, ◌∙◌, map, rules, arith}
 use Rattle.ordered_lists.specs.Members.{IsIn}
 use Rattle.normal_rule.specs.declared.rule.RuleRefusal.TheVariants.{RuleTooLarge}
 use Rattle.conforming_trees.specs.Conforming.{labels}
 use Rattle.rule_steps.specs.Sets.{HasMany}
 use Rattle.rule_steps.proofs.BumpedSets.{list_set, list_many}
+use Rattle.rule_steps.proofs.NodeSets.{set_short}
 use Rattle.rule_steps.proofs.additions.set_of.Goals as goal
+
+pub returns-then-len-lt2-clause-set : goal.returns-then-len-lt2-clause-set
+returns-then-len-lt2-clause-set c = set_short c.args.nodes.items (omega (arith, c.if-len-lt2.true, c.len.ensures))
 
 pub returns-in_err-put_few-clause-large : goal.returns-in_err-put_few-clause-large
 returns-in_err-put_few-clause-large c =

@@ -24,16 +24,19 @@ returns-in_err-above-clause-large c =
     λ e. many_above c.args.eq.now c.args.rule.now c.requires.equation c.requires.rule c.args.kernel.0 (tree_at c.args.pool.now c.args.id.0) c.requires.kernel c.requires.conforms c.in_ok-at.at.items (grind (arith, nat_tests, c.is_empty.ensures, c.if-is_empty.false)) c.in_ok-at.ensures.set (c.in_err-above.ensures.large e) in
     search rules
 
+pub sums_with-requires : goal.sums_with-requires
+sums_with-requires c = c.in_ok-above.ensures.set.ascending
+
 pub returns-clause-set : goal.returns-clause-set
 returns-clause-set c =
-    IfOk-weaker c.sums.result _ _
+    IfOk-weaker c.sums_with.result _ _
     (λ v set. sums_made c.args.eq.now c.args.rule.now c.requires.equation c.requires.rule c.args.kernel.0 (tree_at c.args.pool.now c.args.id.0) c.requires.kernel c.requires.conforms c.in_ok-at.at.items c.in_ok-above.above.items v.items c.in_ok-at.ensures.set c.in_ok-above.ensures.set
-    (rw (c.as_slice.ensures.value, c.as_slice-2.ensures.value) at set))
-    c.sums.ensures.set
+    (rw c.as_slice.ensures.value at set))
+    c.sums_with.ensures.set
 
 pub returns-clause-large : goal.returns-clause-large
 returns-clause-large c =
-    IfErr-weaker c.sums.result _ _
+    IfErr-weaker c.sums_with.result _ _
     (λ e large is. many_sums c.args.eq.now c.args.rule.now c.requires.equation c.requires.rule c.args.kernel.0 (tree_at c.args.pool.now c.args.id.0) c.requires.kernel c.requires.conforms c.in_ok-at.at.items c.in_ok-above.above.items c.in_ok-at.ensures.set c.in_ok-above.ensures.set
-    (rw (c.as_slice.ensures.value, c.as_slice-2.ensures.value) at (large is)))
-    c.sums.ensures.large
+    (rw c.as_slice.ensures.value at (large is)))
+    c.sums_with.ensures.large

@@ -30,16 +30,22 @@ returns-in_err-above-clause-large t c =
     λ e. many_child c.args.eq.now c.args.rule.now c.requires.equation c.requires.rule c.args.pool.now c.args.id.0 c.node.result.0.entries c.node.result.1.now c.loop-i.i c.node.ensures.tree c.requires.conforms c.loop-i-test.true c.loop-i.invariant.within (c.in_err-above.ensures.large e) in
     search rules
 
+pub sums_with-requires : goal.sums_with-requires
+sums_with-requires t c = (c.loop-i.invariant.set c.node.result.0.entries).ascending
+
 pub returns-in_err-inner-clause-large : goal.returns-in_err-inner-clause-large
 returns-in_err-inner-clause-large t c =
     let more : c.in_err-inner.field-0.0 ≡ RuleTooLarge → HasMany (IsAbove c.args.eq.now.types c.args.rule.now (tree_at c.args.pool.now c.args.id.0)) =
-    λ e. many_inner c.args.eq.now c.args.rule.now c.requires.equation c.requires.rule c.args.pool.now c.args.id.0 c.node.result.0.entries c.node.result.1.now c.loop-i.i c.node.ensures.tree c.requires.conforms c.loop-i-test.true c.loop-i.invariant.within c.in_ok-above.above.items c.loop-i.all.items c.in_ok-above.ensures.set (c.loop-i.invariant.set c.node.result.0.entries) (rw (c.as_slice.ensures.value, c.as_slice-in-loop-i.ensures.value) at (c.in_err-inner.ensures.large e)) in
+    λ e. many_inner c.args.eq.now c.args.rule.now c.requires.equation c.requires.rule c.args.pool.now c.args.id.0 c.node.result.0.entries c.node.result.1.now c.loop-i.i c.node.ensures.tree c.requires.conforms c.loop-i-test.true c.loop-i.invariant.within c.in_ok-above.above.items c.loop-i.all.items c.in_ok-above.ensures.set (c.loop-i.invariant.set c.node.result.0.entries) (rw c.as_slice.ensures.value at (c.in_err-inner.ensures.large e)) in
     search rules
+
+pub sums_with-requires-in-loop-i : goal.sums_with-requires-in-loop-i
+sums_with-requires-in-loop-i t c = c.in_ok-inner.ensures.set.ascending
 
 pub returns-in_err-all-2-clause-large : goal.returns-in_err-all-2-clause-large
 returns-in_err-all-2-clause-large t c =
     let more : c.in_err-all-2.field-0.0 ≡ RuleTooLarge → HasMany (IsAbove c.args.eq.now.types c.args.rule.now (tree_at c.args.pool.now c.args.id.0)) =
-    λ e. many_all c.args.eq.now c.args.rule.now c.requires.equation c.requires.rule c.args.pool.now c.args.id.0 c.node.result.0.entries c.node.result.1.now c.loop-i.i c.node.ensures.tree c.requires.conforms c.loop-i-test.true c.loop-i.invariant.within c.in_ok-at.at.items c.in_ok-above.above.items c.loop-i.all.items c.in_ok-inner.inner.items c.in_ok-at.ensures.set c.in_ok-above.ensures.set (c.loop-i.invariant.set c.node.result.0.entries) (rw (c.as_slice.ensures.value, c.as_slice-in-loop-i.ensures.value) at c.in_ok-inner.ensures.set) (rw (c.as_slice-in-loop-i-2.ensures.value, c.as_slice-in-loop-i-3.ensures.value) at (c.in_err-all-2.ensures.large e)) in
+    λ e. many_all c.args.eq.now c.args.rule.now c.requires.equation c.requires.rule c.args.pool.now c.args.id.0 c.node.result.0.entries c.node.result.1.now c.loop-i.i c.node.ensures.tree c.requires.conforms c.loop-i-test.true c.loop-i.invariant.within c.in_ok-at.at.items c.in_ok-above.above.items c.loop-i.all.items c.in_ok-inner.inner.items c.in_ok-at.ensures.set c.in_ok-above.ensures.set (c.loop-i.invariant.set c.node.result.0.entries) (rw c.as_slice.ensures.value at c.in_ok-inner.ensures.set) (rw c.as_slice-in-loop-i.ensures.value at (c.in_err-all-2.ensures.large e)) in
     search rules
 
 pub loop-i-preserved : goal.loop-i-preserved
@@ -47,8 +53,8 @@ loop-i-preserved t c = record {
   within = omega (arith, c.loop-i.invariant.within);
   set = λ n.
       above_step c.args.eq.now.types c.args.rule.now c.args.pool.now n c.node.result.1.now c.loop-i.i c.in_ok-at.at.items c.in_ok-above.above.items c.loop-i.all.items c.in_ok-inner.inner.items c.in_ok-all-2.all.items c.loop-i-test.true c.loop-i.invariant.within
-      c.in_ok-at.ensures.set c.in_ok-above.ensures.set (c.loop-i.invariant.set n) (rw (c.as_slice.ensures.value, c.as_slice-in-loop-i.ensures.value) at c.in_ok-inner.ensures.set)
-      (rw (c.as_slice-in-loop-i-2.ensures.value, c.as_slice-in-loop-i-3.ensures.value) at c.in_ok-all-2.ensures.set);
+      c.in_ok-at.ensures.set c.in_ok-above.ensures.set (c.loop-i.invariant.set n) (rw c.as_slice.ensures.value at c.in_ok-inner.ensures.set)
+      (rw c.as_slice-in-loop-i.ensures.value at c.in_ok-all-2.ensures.set);
 }
 
 pub returns-clause-set : goal.returns-clause-set

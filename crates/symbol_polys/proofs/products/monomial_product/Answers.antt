@@ -2,7 +2,7 @@ use Rattle.std.proofs.Common.{◌<◌, length, ◌+◌, ◌++◌, ◌∷◌, [],
 use Rattle.symbol_polys.specs.Products.{monomial_product}
 use Rattle.symbol_polys.specs.View.{symbol_of}
 use Rattle.symbol_polys.specs.declared.symbols.Symbol.{Symbol}
-use Rattle.symbol_polys.proofs.SymbolLaws.{small_at}
+use Rattle.symbol_polys.proofs.SymbolLaws.{small_at, bounded_at, bounded_behind}
 use Rattle.symbol_polys.proofs.MonomialLaws.{first_step, second_step, sorted_after, taken, product_ends, back_slice}
 use Rattle.symbol_polys.proofs.products.monomial_product.Goals.{then-loop-i-test+else-j-b, else-loop-i-test}
 use Rattle.symbol_polys.proofs.products.monomial_product.Goals as goal
@@ -12,6 +12,18 @@ symbol_order-requires-clause-small_a c = small_at c.args.a.now c.loop-i.i c.inde
 
 pub symbol_order-requires-clause-small_b : goal.symbol_order-requires-clause-small_b
 symbol_order-requires-clause-small_b c = small_at c.args.b.now c.loop-i.j c.index-b-j.result c.if-j-b.true c.index-b-j.is c.requires.b.trees
+
+pub copy_symbol-requires : goal.copy_symbol-requires
+copy_symbol-requires c = bounded_at c.args.b.now c.loop-i.j c.index-b-j.result c.if-j-b.true c.index-b-j.is c.requires.b.trees
+
+pub copy_symbol-requires-in_default : goal.copy_symbol-requires-in_default
+copy_symbol-requires-in_default c = bounded_at c.args.a.now c.loop-i.i c.index-a-i.result c.loop-i-test.true c.index-a-i.is c.requires.a.trees
+
+pub copy_symbols-requires : goal.copy_symbols-requires
+copy_symbols-requires c = rw (back_slice c.args.a.now c.loop-i.i) (bounded_behind c.args.a.now c.loop-i.i c.requires.a.trees)
+
+pub copy_symbols-requires-2 : goal.copy_symbols-requires-2
+copy_symbols-requires-2 c = rw (back_slice c.args.b.now c.loop-i.j) (bounded_behind c.args.b.now c.loop-i.j c.requires.b.trees)
 
 pub loop-i-preserved-in-Greater : goal.loop-i-preserved-in-Greater
 loop-i-preserved-in-Greater c =

@@ -5,6 +5,9 @@ use Rattle.symbol_polys.specs.View.{symbol_of}
 use Rattle.symbol_polys.proofs.PowerReading.{copies_put, copies_all, answered, refused_power, base_is, exponent_is}
 use Rattle.symbol_polys.proofs.reading_powers.read_power.Goals as goal
 
+pub put_copies-requires : goal.put_copies-requires
+put_copies-requires c = c.in_ok-s.ensures.symbol.bounded
+
 pub returns-in_err-base-clause-back : goal.returns-in_err-base-clause-back
 returns-in_err-base-clause-back c = λ x h is.
     let m = refused_power c.args.names.now.types.now c.args.names.now.parameters.now c.requires.types c.requires.parameters c.args.text.now x c.in_err-base.field-0.0 h is c.in_err-base.ensures.refusal in

@@ -6,6 +6,12 @@ use Rattle.symbol_polys.proofs.Powers.{run}
 use Rattle.symbol_polys.proofs.Putting.{left_at, left_behind, all-drop, power_put}
 use Rattle.symbol_polys.proofs.text.put_powers.Goals as goal
 
+pub put_power-requires-clause-tree : goal.put_power-requires-clause-tree
+put_power-requires-clause-tree c =
+    let first = left_at c.args.symbols.now c.loop-at.at c.index-symbols-at.result c.loop-at-test.true c.index-symbols-at.is in
+    let trees = rw first at c.loop-at.invariant.trees in
+    trees.0
+
 pub loop-at-preserved : goal.loop-at-preserved
 loop-at-preserved c =
     let xs = c.args.symbols.now in

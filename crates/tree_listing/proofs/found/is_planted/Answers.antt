@@ -1,4 +1,4 @@
-use Rattle.std.proofs.Common.{◌≡◌, ◌&&◌, Bool, sym, ap, ◌∙◌, get_or}
+use Rattle.std.proofs.Common.{get_or}
 use Rattle.degree_numbers.specs.Multi.{is_zero}
 use Rattle.plain_trees.specs.Degree.{planted, is_kernel}
 use Rattle.tree_pool.specs.Content.{tree_at}

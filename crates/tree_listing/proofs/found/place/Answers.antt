@@ -1,4 +1,4 @@
-use Rattle.std.proofs.Common.{◌≡◌, ◌+◌, ◌-◌, ◌/◌, ◌<◌, ◌≤◌, [], length, get_or, sym, ◌∙◌, arith, refl, Less, Equal, Greater}
+use Rattle.std.proofs.Common.{◌≡◌, ◌+◌, ◌-◌, ◌/◌, ◌<◌, ◌≤◌, [], length, get_or, sym, ◌∙◌, arith, Less, Equal, Greater}
 use Rattle.plain_trees.specs.Plain.{bare}
 use Rattle.conforming_trees.specs.Listed.{listing_order}
 use Rattle.tree_pool.specs.Content.{tree_at}

@@ -1,4 +1,4 @@
-use Rattle.std.proofs.Common.{◌≡◌, ◌≤◌, ◌-◌, length}
+use Rattle.std.proofs.Common.{◌≤◌, ◌-◌, length}
 use Rattle.tree_pool.specs.Content.{tree_at}
 use Rattle.tree_listing.specs.Levels.{trees}
 use Rattle.tree_listing.proofs.Places.{AreAfter, AreBefore}

@@ -1,4 +1,4 @@
-use Rattle.std.proofs.Common.{◌≡◌, sym, ◌∙◌}
+use Rattle.std.proofs.Common.{sym, ◌∙◌}
 use Rattle.tree_listing.proofs.Places.{trees-insert, ids-insert}
 use Rattle.tree_listing.proofs.found.put_listed.Goals as goal
 

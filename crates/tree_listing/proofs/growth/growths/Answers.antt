@@ -1,4 +1,4 @@
-use Rattle.std.proofs.Common.{◌≡◌, ◌-◌, length, arith}
+use Rattle.std.proofs.Common.{◌-◌, length, arith}
 use Rattle.tree_listing.proofs.Plans.{level_rows}
 use Rattle.tree_listing.proofs.growth.growths.Goals as goal
 

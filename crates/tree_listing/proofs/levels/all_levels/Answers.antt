@@ -1,4 +1,4 @@
-use Rattle.std.proofs.Common.{◌≡◌, ◌+◌, [], ◌∷◌, length, ap, arith, length-append}
+use Rattle.std.proofs.Common.{[], ◌∷◌, length, ap, arith, length-append}
 use Rattle.tree_pool.proofs.Growth.{grown_trans}
 use Rattle.tree_listing.specs.Gathered.{gathered}
 use Rattle.tree_listing.proofs.LevelLaws.{setting-grown, levels_step, all_covered_step}

@@ -1,4 +1,4 @@
-use Rattle.std.proofs.Common.{◌≡◌, ◌<◌, ◌≤◌, ◌-◌, length}
+use Rattle.std.proofs.Common.{◌<◌, ◌-◌, length}
 use Rattle.ordered_lists.specs.Members.{IsIn}
 use Rattle.plain_trees.specs.Plain.{Plain, edge_count_of}
 use Rattle.normal_rule.specs.declared.rule.RuleRow.{RuleRow}

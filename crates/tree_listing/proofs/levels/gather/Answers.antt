@@ -1,4 +1,4 @@
-use Rattle.std.proofs.Common.{◌≡◌, ◌∙◌}
+use Rattle.std.proofs.Common.{◌∙◌}
 use Rattle.tree_listing.proofs.Listings.{good_empty}
 use Rattle.tree_listing.proofs.levels.gather.Goals as goal
 

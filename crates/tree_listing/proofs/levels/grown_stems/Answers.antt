@@ -1,9 +1,7 @@
-use Rattle.std.proofs.Common.{◌≡◌, List, subst, sym, ◌∙◌, ap, map, length, get_or}
+use Rattle.std.proofs.Common.{◌≡◌, subst, sym, ◌∙◌, ap, map, length}
 use Rattle.std.proofs.lemmas.Result.{IfOk-weaker}
 use Rattle.plain_trees.specs.Degree.{empty_tree}
-use Rattle.tree_budgets.specs.declared.plan.RowPlan.{RowPlan}
-use Rattle.tree_listing.specs.declared.level.Growth.{Growth}
-use Rattle.tree_listing.specs.Levels.{Sprout, AreSprouts, sprouts, sprout_of_growth}
+use Rattle.tree_listing.specs.Levels.{AreSprouts, sprouts, sprout_of_growth}
 use Rattle.tree_listing.proofs.Growing.{holds_below}
 use Rattle.tree_listing.proofs.Settings.{growths_in, growths_are, plan_in_range, levels_in, row_item}
 use Rattle.tree_listing.proofs.levels.grown_stems.Goals as goal

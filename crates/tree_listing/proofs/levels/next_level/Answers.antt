@@ -1,4 +1,4 @@
-use Rattle.std.proofs.Common.{◌≡◌, ◌≤◌, length, sym, ap, ◌∙◌, subst, arith, length-append, Some, [], ◌∷◌}
+use Rattle.std.proofs.Common.{◌≡◌, length, ap, subst, arith, length-append, Some, [], ◌∷◌}
 use Rattle.std.specs.Prelude.{slice_get}
 use Rattle.std.specs.Prelude.{ℕ}
 use Rattle.tree_pool.proofs.Growth.{grown_trans}

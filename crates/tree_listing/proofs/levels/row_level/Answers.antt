@@ -1,7 +1,8 @@
-use Rattle.std.proofs.Common.{◌≡◌, ◌∙◌, sym, refl, rules, length}
+use Rattle.std.proofs.Common.{◌≡◌, ◌∙◌, refl, subst, rules, length}
 use Rattle.conforming_trees.specs.Listed.{HasTooManyTrees}
 use Rattle.tree_listing.specs.declared.refusal.ListRefusal.TheVariants.{TooManyTrees}
 use Rattle.tree_listing.specs.Levels.{stem_trees}
+use Rattle.tree_listing.specs.Made.{IsLeast}
 use Rattle.tree_listing.specs.Gathered.{decorated_all}
 use Rattle.tree_listing.proofs.Gathers.{row_sound, row_covers, row_more, row_many, any_of}
 use Rattle.tree_listing.proofs.Keeping.{keeping-grown}
@@ -47,7 +48,7 @@ returns-clause-level c =
     let item = row_item c.as_slice.result.now s.plan.now.rows c.args.row p c.as_slice.ensures c.index-as_slice-row.is in
     let planned = row_planned_at s.eq.now s.rule.now s.plan.now c.args.pool.now s.empty p c.args.row r c.requires.setting c.requires.row item is in
     row_made s.eq.now s.rule.now s.plan.now then c.wholes_of.new.pool p r (length c.args.levels.now) c.in_ok-stems.stems c.in_ok-wholes.wholes.items _ c.in_ok-wholes.ensures.grown (c.in_ok-stems.ensures.grown.types ∙ c.requires.setting.types) c.requires.setting.equation.types.scaling.most planned
-    (c.in_ok-stems.ensures.stems r is) c.in_ok-stems.ensures.known c.in_ok-wholes.ensures.keeping.wholes (rw c.as_slice-2.ensures at c.in_ok-wholes.ensures.trees) refl refl c.from_vec.ensures
+    (c.in_ok-stems.ensures.stems r is) c.in_ok-stems.ensures.known c.in_ok-wholes.ensures.keeping.wholes (rw c.as_slice-2.ensures at c.in_ok-wholes.ensures.trees) refl refl c.from_vec.ensures (subst (λ is. IsLeast c.wholes_of.new.pool is c.least_degree-least.result) c.as_slice-3.ensures.value c.least_degree-least.ensures)
 
 pub returns-clause-found : goal.returns-clause-found
 returns-clause-found c =

@@ -1,5 +1,4 @@
-use Rattle.std.proofs.Common.{◌≡◌, subst, sym, ◌∙◌, ap, length, arith}
-use Rattle.tree_listing.specs.Levels.{AreSprouts, sprouts}
+use Rattle.std.proofs.Common.{sym, length}
 use Rattle.tree_listing.proofs.Base.{base_some, base_known, base_are}
 use Rattle.tree_listing.proofs.Members.{same_number}
 use Rattle.tree_listing.proofs.Settings.{row_item}

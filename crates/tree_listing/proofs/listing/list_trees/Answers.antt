@@ -1,7 +1,6 @@
-use Rattle.std.proofs.Common.{◌≡◌, ◌≤◌, length, arith, rules}
+use Rattle.std.proofs.Common.{◌≡◌, arith, rules}
 use Rattle.conforming_trees.specs.Listed.{HasTooManyTrees, HasTooLargeTree}
 use Rattle.tree_listing.specs.declared.refusal.ListRefusal.TheVariants.{TreeTooLarge}
-use Rattle.tree_listing.specs.Levels.{trees}
 use Rattle.tree_listing.specs.Gathered.{gathered}
 use Rattle.tree_listing.proofs.Listings.{whole_list, first_zero, not_many}
 use Rattle.tree_listing.proofs.Places.{length-trees}

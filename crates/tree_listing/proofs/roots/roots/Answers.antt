@@ -1,5 +1,3 @@
-use Rattle.std.proofs.Common.{◌≡◌, subst, sym, All}
-use Rattle.degree_numbers.specs.declared.multi.Multi.{Multi}
 use Rattle.tree_listing.proofs.RootMembers.{roots_small}
 use Rattle.tree_listing.proofs.roots.roots.Goals as goal
 

@@ -1,4 +1,4 @@
-use Rattle.std.proofs.Common.{◌≡◌, arith, length}
+use Rattle.std.proofs.Common.{arith, length}
 use Rattle.tree_pool.proofs.Trees.{AreBelow-le}
 use Rattle.tree_listing.proofs.Growing.{root_over, root_canon}
 use Rattle.tree_listing.proofs.stems.decorate.Goals as goal

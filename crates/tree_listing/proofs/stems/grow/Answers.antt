@@ -1,4 +1,3 @@
-use Rattle.std.proofs.Common.{◌≡◌}
 use Rattle.tree_listing.proofs.Growing.{growth_below, growth_over, growth_canon}
 use Rattle.tree_listing.proofs.stems.grow.Goals as goal
 

@@ -1,6 +1,6 @@
-use Rattle.std.proofs.Common.{◌≡◌, get_or, refl}
+use Rattle.std.proofs.Common.{get_or}
 use Rattle.tree_pool.proofs.Growth.{grown_trans}
-use Rattle.tree_listing.specs.Levels.{IsGrowthIn, tree_of_growth}
+use Rattle.tree_listing.specs.Levels.{tree_of_growth}
 use Rattle.tree_listing.proofs.Growing.{stems_step, stems_push, no_growth}
 use Rattle.tree_listing.proofs.stems.stems_of.Goals as goal
 

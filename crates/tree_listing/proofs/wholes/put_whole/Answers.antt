@@ -1,4 +1,4 @@
-use Rattle.std.proofs.Common.{◌≡◌, ◌∙◌, ap, length, arith}
+use Rattle.std.proofs.Common.{ap, length, arith}
 use Rattle.tree_pool.specs.Content.{tree_at}
 use Rattle.tree_listing.specs.Gathered.{with_root_of}
 use Rattle.tree_listing.proofs.Growing.{holds_below}

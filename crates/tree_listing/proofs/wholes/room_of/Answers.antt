@@ -1,4 +1,3 @@
-use Rattle.std.proofs.Common.{◌≡◌}
 use Rattle.tree_listing.proofs.Keeping.{room_is}
 use Rattle.tree_listing.proofs.wholes.room_of.Goals as goal
 

@@ -1,12 +1,13 @@
-use Rattle.std.proofs.Common.{◌∙◌}
-use Rattle.workbench_cli.proofs.Answers.{no_fault, refused_of, text_of}
+use Rattle.std.proofs.Common.{map, ap, sym, ◌∙◌, subst}
+use Rattle.workbench_core.specs.Answers.{of_output}
+use Rattle.workbench_cli.specs.Reading.{AreRead}
+use Rattle.workbench_cli.proofs.RunLemmas.{answers_of_files}
 use Rattle.workbench_cli.proofs.top.answer.Goals as goal
 
-pub returns-clause-text : goal.returns-clause-text
-returns-clause-text g c = text_of c.args.command _ c.deref.result.now c.given.result (λ v. v.items) (λ text told. c.deref.ensures.value ∙ c.in-Ok.ensures.bytes text told) c.given.ensures.text
-
-pub returns-clause-refused : goal.returns-clause-refused
-returns-clause-refused g c = refused_of c.args.command _ c.deref.result.now c.given.result (λ text told. c.deref.ensures.value ∙ c.in-Ok.ensures.bytes text told) c.given.ensures.refused
-
-pub returns-clause-cause : goal.returns-clause-cause
-returns-clause-cause g c = no_fault _ c.args.command c.deref.result.now c.given.result c.given.ensures.refused
+pub returns-clause-given : goal.returns-clause-given
+returns-clause-given g c =
+    let texts = g.F.Files.text c.args.files.now in
+    let names = map (λ name. name.now) c.deref.result.now in
+    let same = ap (map (λ name. name.now)) c.deref.ensures.value ∙ c.in_ok-names.ensures in
+    let read = subst (λ vs. AreRead texts names (map (λ v. v.items) vs)) (sym c.deref-2.ensures.value) c.in_ok-texts.ensures.read in
+    answers_of_files texts c.args.request.now names (map (λ v. v.items) c.deref-2.result.now) c.answer_for.result of_output same read c.answer_for.ensures.given

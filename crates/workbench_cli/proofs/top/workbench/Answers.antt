@@ -1,41 +1,18 @@
-use Rattle.std.proofs.Common.{refl, inr}
-use Rattle.wb_outside.proofs.ToldLemmas.{gets_nothing}
-use Rattle.workbench_cli.specs.declared.words.Command.TheVariants.{Check, Trees}
-use Rattle.workbench_cli.specs.Answer.{wrong_words}
-use Rattle.workbench_cli.proofs.Answers.{delivered, for_told}
-use Rattle.workbench_cli.proofs.Commands.{same_command, same_name}
+use Rattle.std.proofs.Common.{inl, inr, refl, arith}
+use Rattle.wb_outside.proofs.ToldLemmas.{grows_nothing}
+use Rattle.workbench_core.specs.declared.fixed.FixedRefusal.TheVariants.{Words}
+use Rattle.workbench_core.specs.Answers.{of_fixed}
+use Rattle.workbench_cli.proofs.DeliveryLemmas.{refusal_arrives}
+use Rattle.workbench_cli.proofs.RunLemmas.{given_to}
 use Rattle.workbench_cli.proofs.top.workbench.Goals as goal
+
+pub returns-in-Some-clause-told : goal.returns-in-Some-clause-told
+returns-in-Some-clause-told g c = λ r texts is told file memory.
+    let w = c.run.ensures.answer in
+    let answer = inl (_, c.in-Some.ensures.found, w.1) in
+    (w.0, given_to (g.F.Files.text c.args.files.now) _ texts r w.0 _ _ _ is told file memory answer w.2, w.2)
 
 pub returns-in-None-clause-answer : goal.returns-in-None-clause-answer
 returns-in-None-clause-answer g c =
-    (wrong_words, inr (c.in-None.ensures.none, refl), c.refuse.ensures.code, gets_nothing _ _, c.refuse.ensures.line)
-
-pub returns-in-None-clause-check : goal.returns-in-None-clause-check
-returns-in-None-clause-check g c = λ name text is told files out memory. absurd (c.in-None.ensures.none Check name is)
-
-pub returns-in-None-clause-trees : goal.returns-in-None-clause-trees
-returns-in-None-clause-trees g c = λ name text is told files out memory. absurd (c.in-None.ensures.none Trees name is)
-
-pub returns-in-Some-clause-check : goal.returns-in-Some-clause-check
-returns-in-Some-clause-check g c = λ name text is told files out memory.
-    let w = c.run.ensures.answer in
-    let found = c.in-Some.ensures.found in
-    let asked = for_told (g.F.Files.text c.args.files.now) Check _ name _ text w.0 (same_command _ _ Check _ name found is) (same_name _ _ Check _ name found is) told w.1 in
-    delivered Check text w.0 _ (record {
-      out_before = g.O.Sink.told c.args.out.now;
-      out_now = g.O.Sink.told c.run.new.out;
-      err_before = g.E.Sink.told c.args.err.now;
-      err_now = g.E.Sink.told c.run.new.err;
-    }) _ asked w.2 (λ s. files (c.run.ensures.file_fault s)) (λ s. out (c.run.ensures.write_fault s)) memory (w.3.whole out) (λ stayed. w.4.whole stayed)
-
-pub returns-in-Some-clause-trees : goal.returns-in-Some-clause-trees
-returns-in-Some-clause-trees g c = λ name text is told files out memory.
-    let w = c.run.ensures.answer in
-    let found = c.in-Some.ensures.found in
-    let asked = for_told (g.F.Files.text c.args.files.now) Trees _ name _ text w.0 (same_command _ _ Trees _ name found is) (same_name _ _ Trees _ name found is) told w.1 in
-    delivered Trees text w.0 _ (record {
-      out_before = g.O.Sink.told c.args.out.now;
-      out_now = g.O.Sink.told c.run.new.out;
-      err_before = g.E.Sink.told c.args.err.now;
-      err_now = g.E.Sink.told c.run.new.err;
-    }) _ asked w.2 (λ s. files (c.run.ensures.file_fault s)) (λ s. out (c.run.ensures.write_fault s)) memory (w.3.whole out) (λ stayed. w.4.whole stayed)
+    let code = c.refuse.ensures.code in
+    (of_fixed Words, inr (c.in-None.ensures.none, refl), refusal_arrives (of_fixed Words) _ _ _ code (λ zero. omega (arith, code, zero)) (grows_nothing _) c.refuse.ensures.line)

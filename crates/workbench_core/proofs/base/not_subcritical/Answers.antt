@@ -4,8 +4,8 @@ use Rattle.workbench_core.specs.Base.{node_text_in}
 use Rattle.workbench_core.proofs.KernelRows.{failing_text}
 use Rattle.workbench_core.proofs.base.not_subcritical.Goals as goal
 
-pub returns : goal.returns
-returns c =
+pub returns-clause-failing : goal.returns-clause-failing
+returns-clause-failing c =
     let f = c.args.failure.now in
     let types = c.args.eq.now.types in
     let kernel = c.in_ok-from_slice.ensures ∙ c.kernel_name.ensures in

@@ -1,8 +1,11 @@
 use Rattle.std.proofs.Common.{arith, ◌∙◌}
 use Rattle.tree_pool.specs.Content.{tree_at}
 use Rattle.plain_trees.proofs.Orders.{tree_order_edges}
-use Rattle.tree_pool.proofs.Walks.{no_edge, root_at, order_roots, edges_whole, edges_stop, edges_end, below_at}
+use Rattle.tree_pool.proofs.Walks.{no_edge, root_at, same_tree, order_roots, edges_whole, edges_stop, edges_end, below_at}
 use Rattle.tree_pool.proofs.pool.Pool.+tree_order.Goals as goal
+
+pub tree_order-returns-then-a-b : goal.tree_order-returns-then-a-b
+tree_order-returns-then-a-b t c = same_tree c.args.self.now c.args.a.0 c.args.b.0 c.if-a-b.true
 
 pub tree_order-returns-in_default-order : goal.tree_order-returns-in_default-order
 tree_order-returns-in_default-order t c =

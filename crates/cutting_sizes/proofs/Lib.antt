@@ -1,0 +1,16 @@
+pub mod Additive
+pub mod AddsUp
+pub mod Bounded
+pub mod Counts
+pub mod DegreeSums
+pub mod Excess
+pub mod Falls
+pub mod Lows
+pub mod Made
+pub mod Members
+pub mod Multiindices
+pub mod Recentred
+pub mod Sizes
+pub mod Steps
+pub mod TermSums
+pub mod TypesKept

@@ -1,0 +1,4 @@
+pub mod Bounds
+pub mod Lows
+pub mod Origins
+pub mod Sizes

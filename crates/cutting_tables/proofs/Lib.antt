@@ -1,0 +1,12 @@
+pub mod CanonSteps
+pub mod Closing
+pub mod Collecting
+pub mod Dropped
+pub mod FiveEntries
+pub mod Forests
+pub mod Keyed
+pub mod LowBounds
+pub mod Products
+pub mod Rooted
+pub mod Steps
+pub mod Sums

@@ -1,0 +1,4 @@
+pub mod Keys
+pub mod Live
+pub mod PoolLows
+pub mod Tables

@@ -1,0 +1,8 @@
+use Rattle.std.proofs.Common.{◌≡◌, drop}
+use Rattle.equation_document.specs.FirstOf.{first_of}
+use Rattle.equation_document.specs.Limits.{noise_size}
+use Rattle.equation_document.proofs.passed_limits.noises_size.Given as goal
+
+-- the first of all is the first of those that are left
+abbrev pub invariant-loop-noise : goal.invariant-loop-noise
+invariant-loop-noise l = first_of noise_size l.noises ≡ first_of noise_size (drop l.noise-index l.noises)

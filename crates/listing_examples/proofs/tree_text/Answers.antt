@@ -1,0 +1,7 @@
+use Rattle.std.proofs.Common.{rules}
+use Rattle.plain_trees.specs.View.{plain}
+use Rattle.listing_examples.proofs.Texts.{tree_small}
+use Rattle.listing_examples.proofs.tree_text.Goals as goal
+
+pub print_tree-requires-clause-small : goal.print_tree-requires-clause-small
+print_tree-requires-clause-small c = tree_small c.args.pool.now c.args.id.0 (plain c.in_ok-tree.tree) c.laws.ensures c.requires (search rules)

@@ -1,0 +1,5 @@
+pub mod ProjectName
+pub mod Kept
+pub mod Told
+pub mod Entries
+pub mod Memory

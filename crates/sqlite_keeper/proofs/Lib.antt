@@ -1,0 +1,7 @@
+mod Statements
+mod Queries
+mod Finding
+mod Sorting
+mod Names
+mod Results
+mod Contexts

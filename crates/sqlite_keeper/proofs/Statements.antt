@@ -1,0 +1,89 @@
+-- What the statements that read compile to.
+use Rattle.std.proofs.Common.{◌≡◌, ℕ, pos, negsuc, List, [], ◌∷◌, codes, Bool, true, false, None, refl}
+use Rattle.sqlite.specs.Command.TheVariants.{Select}
+use Rattle.sqlite.specs.Query.{Query, inner, end}
+use Rattle.sqlite.specs.Term.{Term, lit, col, op2}
+use Rattle.sqlite.specs.declared.types.Value.TheVariants.{Int}
+use Rattle.sqlite.specs.Collation.{Collation}
+use Rattle.sqlite.specs.Collation.TheVariants.{Binary}
+use Rattle.sqlite_value.specs.declared.keys.Key.{Key}
+use Rattle.sqlite_value.specs.Keys.{ascending}
+use Rattle.sqlite_sql.specs.declared.ops.BinaryOp.TheVariants.{Compare}
+use Rattle.sqlite_sql.specs.declared.ops.CompareOp.TheVariants.{Eq}
+use Rattle.sqlite_tied.specs.Compute.{everything}
+use Rattle.sqlite.specs.Listing.{understood, reads_listing}
+use Rattle.sqlite.proofs.Callers.{IsPlain, command_of}
+use Rattle.sqlite_keeper.specs.Schema.{store_schema}
+
+abbrev pub file_text : List ℕ
+file_text = codes "SELECT file FROM project WHERE name = ?1"
+
+abbrev pub names_text : List ℕ
+names_text = codes "SELECT name FROM project ORDER BY name"
+
+abbrev pub contexts_text : List ℕ
+contexts_text = codes "SELECT DISTINCT context FROM result ORDER BY context"
+
+abbrev pub results_text : List ℕ
+results_text = codes "SELECT tree, value FROM result WHERE context = ?1 ORDER BY tree"
+
+abbrev query : ℕ → List Term → List Term → Bool → List Collation → List (Term × Key) → Query
+query tree filter project distinct collations order = record {
+  from = inner tree end;
+  filter = filter;
+  group = None;
+  project = project;
+  distinct = distinct;
+  collations = collations;
+  order = order;
+  limit = lit (Int (negsuc 0));
+  offset = lit (Int (pos 0));
+}
+
+-- the first column is the parameter
+abbrev pub by_parameter : List Term
+by_parameter = op2 (Compare Eq Binary) (col 1 1) (col 0 0) ∷ []
+
+abbrev pub file_query : Query
+file_query = query 0 by_parameter (col 1 2 ∷ []) false [] []
+
+abbrev pub names_query : Query
+names_query = query 0 [] (col 1 1 ∷ []) false [] ((col 1 1, ascending Binary) ∷ [])
+
+abbrev pub contexts_query : Query
+contexts_query = query 2 [] (col 1 1 ∷ []) true (Binary ∷ []) ((col 1 1, ascending Binary) ∷ [])
+
+abbrev pub results_query : Query
+results_query = query 2 by_parameter (col 1 2 ∷ col 1 3 ∷ []) false [] ((col 1 2, ascending Binary) ∷ [])
+
+pub file_is : (command_of (understood store_schema file_text) ≡ Select (record { lets = []; body = file_query }) (codes "file" ∷ [])) × (reads_listing store_schema file_text ≡ false)
+unfolding understood everything
+file_is = (refl, refl)
+
+pub file_plain : IsPlain (understood store_schema file_text)
+unfolding understood everything
+file_plain = (refl, refl)
+
+pub names_is : (command_of (understood store_schema names_text) ≡ Select (record { lets = []; body = names_query }) (codes "name" ∷ [])) × (reads_listing store_schema names_text ≡ false)
+unfolding understood everything
+names_is = (refl, refl)
+
+pub names_plain : IsPlain (understood store_schema names_text)
+unfolding understood everything
+names_plain = (refl, refl)
+
+pub contexts_is : (command_of (understood store_schema contexts_text) ≡ Select (record { lets = []; body = contexts_query }) (codes "context" ∷ [])) × (reads_listing store_schema contexts_text ≡ false)
+unfolding understood everything
+contexts_is = (refl, refl)
+
+pub contexts_plain : IsPlain (understood store_schema contexts_text)
+unfolding understood everything
+contexts_plain = (refl, refl)
+
+pub results_is : (command_of (understood store_schema results_text) ≡ Select (record { lets = []; body = results_query }) (codes "tree" ∷ codes "value" ∷ [])) × (reads_listing store_schema results_text ≡ false)
+unfolding understood everything
+results_is = (refl, refl)
+
+pub results_plain : IsPlain (understood store_schema results_text)
+unfolding understood everything
+results_plain = (refl, refl)

@@ -1,0 +1,69 @@
+-- What the rows of the database tell.
+--   project_rows db, result_rows db == the rows of the two tables; a row is its number, then its columns
+--   project_entry r == the name and the file in a row of `project`
+--   result_entry r == the context and the tree in a row of `result`, and its value
+--   IsProjectRow r == the name of the row is a text and the name of a project, its file is a blob
+--   IsResultRow r == context, tree and value of the row are blobs
+--   named v == the text of the value, where it is the name of a project
+--   shown_name r == the name that the row of an answer shows, where it is the name of a project
+--   shown_text r, shown_pair r == the bytes of the first column that the row of an answer shows, and of the first two
+--   projects_in db, results_in db == the finite maps that the rows make
+--   IsStore db == the database has the tables of the store, its rows are such rows, no name comes twice, and no pair of a context and a tree
+use Rattle.std.specs.Prelude.{◌≡◌, ℕ, true, List, map, All, Option, Some, None, if◌then◌else◌}
+use Rattle.std.specs.FinMap.{from_entries}
+use Rattle.sqlite.specs.Order.{Row, column, bytes}
+use Rattle.sqlite.specs.declared.types.Value.{Value}
+use Rattle.sqlite.specs.declared.types.Value.TheVariants.{Text, Blob}
+use Rattle.sqlite.specs.Effect.{Database}
+use Rattle.result_keeper.specs.ProjectName.{is_project_name}
+use Rattle.result_keeper.specs.Kept.{bytes_cmp, row_cmp, Projects, Rows}
+use Rattle.result_keeper.specs.Entries.{AreApart}
+use Rattle.sqlite_keeper.specs.Schema.{store_schema}
+
+abbrev pub project_rows : Database → List Row
+project_rows db = db.trees 0
+
+abbrev pub result_rows : Database → List Row
+result_rows db = db.trees 2
+
+abbrev pub project_entry : Row → List ℕ × List ℕ
+project_entry r = (bytes (column r 1), bytes (column r 2))
+
+abbrev pub result_entry : Row → (List ℕ × List ℕ) × List ℕ
+result_entry r = ((bytes (column r 1), bytes (column r 2)), bytes (column r 3))
+
+abbrev pub named : Value → Option (List ℕ)
+named (Text t) = if is_project_name t then Some t else None
+named _ = None
+
+abbrev pub shown_name : Row → Option (List ℕ)
+shown_name r = named (column r 0)
+
+abbrev pub shown_text : Row → List ℕ
+shown_text r = bytes (column r 0)
+
+abbrev pub shown_pair : Row → List ℕ × List ℕ
+shown_pair r = (bytes (column r 0), bytes (column r 1))
+
+pub record IsProjectRow (r : Row) : Type 0 where
+  pub name : column r 1 ≡ Text (bytes (column r 1))
+  pub named : is_project_name (bytes (column r 1)) ≡ true
+  pub file : column r 2 ≡ Blob (bytes (column r 2))
+
+pub record IsResultRow (r : Row) : Type 0 where
+  pub context : column r 1 ≡ Blob (bytes (column r 1))
+  pub tree : column r 2 ≡ Blob (bytes (column r 2))
+  pub value : column r 3 ≡ Blob (bytes (column r 3))
+
+abbrev pub projects_in : Database → Projects
+projects_in db = from_entries (map project_entry (project_rows db))
+
+abbrev pub results_in : Database → Rows
+results_in db = from_entries (map result_entry (result_rows db))
+
+pub record IsStore (db : Database) : Type 0 where
+  pub schema : db.schema ≡ store_schema
+  pub projects : All IsProjectRow (project_rows db)
+  pub results : All IsResultRow (result_rows db)
+  pub names : AreApart bytes_cmp (map project_entry (project_rows db))
+  pub keys : AreApart row_cmp (map result_entry (result_rows db))

@@ -1,0 +1,138 @@
+// A keeper over a `sqlite` database.
+ghost use Rattle.std.specs.Prelude.{◌≡◌, None, IfOk, if◌then◌else◌};
+
+use crate::failure::{counted, uncounted};
+use crate::project_table::{find_file, names_in_order, put_file, remove_file};
+use crate::result_table::{contexts_in_order, put_rows, results_in_order};
+use crate::schema::make_tables;
+use crate::version::{is_old, migrate};
+use result_keeper::{ContextPair, Keeper, KeeperError, ProjectName, Put, StoredRow};
+use sqlite::{Alter, Connection, Error};
+use std::alloc::Global;
+
+/// A keeper over a database.
+#[derive(Drop)]
+pub struct SqliteKeeper<S: Alter> {
+    conn: Connection<S>,
+    is_old: bool,
+    faults: u64,
+}
+
+// Makes the tables that are not there, and says whether the store is of version 1.
+fn prepare<S: Alter>(conn: &mut Connection<S>) -> Result<bool, Error> {
+    make_tables(conn)?;
+    is_old(conn)
+}
+
+impl<S: Alter + Drop> SqliteKeeper<S> {
+    /// Makes the tables where they are not there. The version is 1 exactly where there are results and none is kept. Fails only
+    /// where the database refuses a statement: as `Memory` for want of memory, else as `Failed`.
+    pub fn new(_alloc: Global, connection: Connection<S>) -> Result<SqliteKeeper<S>, KeeperError>
+        ensures { IfOk result (λ k. k.faults ≡ 0) }
+    {
+        let mut conn = connection;
+        match prepare(&mut conn) {
+            Ok(is_old) => Ok(SqliteKeeper {
+                conn,
+                is_old,
+                faults: 0,
+            }),
+            Err(error) => Err(uncounted(error)),
+        }
+    }
+
+    /// The connection.
+    pub fn into_connection(self) -> Connection<S> {
+        let SqliteKeeper {
+            conn,
+            is_old: _,
+            faults: _,
+        } = self;
+        conn
+    }
+}
+
+impl<S: Alter> Keeper for SqliteKeeper<S> {
+    ghost version = { λ k. if k.is_old then 1 else 2 };
+
+    ghost told = { λ _. None };
+
+    ghost faults = { λ k. k.faults };
+
+    fn version(&self) -> u8 {
+        if self.is_old { 1 } else { 2 }
+    }
+
+    fn project(
+        &mut self,
+        _alloc: Global,
+        name: &ProjectName,
+    ) -> Result<Option<Vec<u8>>, KeeperError> {
+        match find_file(&mut self.conn, name) {
+            Ok(file) => Ok(file),
+            Err(error) => Err(counted(&mut self.faults, error)),
+        }
+    }
+
+    fn put_project(
+        &mut self,
+        _alloc: Global,
+        name: &ProjectName,
+        file: &[u8],
+    ) -> Result<Put, KeeperError> {
+        match put_file(&mut self.conn, name, file) {
+            Ok(put) => Ok(put),
+            Err(error) => Err(counted(&mut self.faults, error)),
+        }
+    }
+
+    fn remove_project(&mut self, _alloc: Global, name: &ProjectName) -> Result<bool, KeeperError> {
+        match remove_file(&mut self.conn, name) {
+            Ok(kept) => Ok(kept),
+            Err(error) => Err(counted(&mut self.faults, error)),
+        }
+    }
+
+    fn names(&mut self, alloc: Global) -> Result<Vec<ProjectName>, KeeperError> {
+        match names_in_order(alloc, &mut self.conn) {
+            Ok(names) => Ok(names),
+            Err(error) => Err(counted(&mut self.faults, error)),
+        }
+    }
+
+    fn contexts(&mut self, alloc: Global) -> Result<Vec<Vec<u8>>, KeeperError> {
+        match contexts_in_order(alloc, &mut self.conn) {
+            Ok(contexts) => Ok(contexts),
+            Err(error) => Err(counted(&mut self.faults, error)),
+        }
+    }
+
+    fn results(&mut self, alloc: Global, context: &[u8]) -> Result<Vec<StoredRow>, KeeperError> {
+        match results_in_order(alloc, &mut self.conn, context) {
+            Ok(rows) => Ok(rows),
+            Err(error) => Err(counted(&mut self.faults, error)),
+        }
+    }
+
+    fn put_results(
+        &mut self,
+        _alloc: Global,
+        context: &[u8],
+        rows: &[StoredRow],
+    ) -> Result<(), KeeperError> {
+        match put_rows(&mut self.conn, context, rows) {
+            Ok(()) => Ok(()),
+            Err(error) => Err(counted(&mut self.faults, error)),
+        }
+    }
+
+    fn migrate(&mut self, _alloc: Global, pairs: &[ContextPair]) -> Result<(), KeeperError> {
+        match migrate(&mut self.conn, pairs) {
+            Ok(()) => {
+                self.is_old = false;
+                Ok(())
+            }
+            Err(error) => Err(counted(&mut self.faults, error)),
+        }
+    }
+}

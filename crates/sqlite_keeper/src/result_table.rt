@@ -1,0 +1,118 @@
+// The statements on the table `result`.
+ghost use Rattle.std.specs.Prelude.{◌≡◌, map, IfOk};
+ghost use Rattle.std.specs.FinMap.{entries};
+ghost use Rattle.sqlite.specs.State.{HasCleanDisk};
+ghost use Rattle.sqlite.specs.Held.{state};
+ghost use Rattle.result_keeper.specs.Entries.{pair_of};
+ghost use Rattle.result_keeper.specs.Kept.{contexts_in, within};
+ghost use Rattle.sqlite_keeper.specs.Tables.{IsStore, results_in, shown_text, shown_pair};
+
+use result_keeper::StoredRow;
+use sqlite::types::ValueRef;
+use sqlite::{Alter, Connection, Error, ErrorCode, Row};
+use std::alloc::Global;
+
+const SELECT_CONTEXTS: &str = "SELECT DISTINCT context FROM result ORDER BY context";
+
+const SELECT_RESULTS: &str = "SELECT tree, value FROM result WHERE context = ?1 ORDER BY tree";
+
+const PUT_RESULT: &str =
+    "INSERT INTO result(context, tree, value) VALUES (?1, ?2, ?3) ON CONFLICT(context, tree) DO UPDATE SET value = excluded.value";
+
+// A row for each context, in order.
+fn context_rows<S: Alter>(conn: &mut Connection<S>) -> Result<Vec<Row>, Error>
+    ensures { HasCleanDisk (state S.Store conn.new) → IsStore (state S.Store conn.old).now
+        → IfOk result (λ rows. map shown_text rows.items ≡ contexts_in (results_in (state S.Store conn.old).now)) }
+{
+    conn.query_all(SELECT_CONTEXTS, &[])
+}
+
+fn blob_in(row: &Row) -> Result<Vec<u8>, Error>
+    ensures { IfOk result (λ blob. blob.items ≡ shown_text row.now) }
+{
+    row.get(0)
+}
+
+fn blobs_shown(alloc: Global, rows: &[Row]) -> Result<Vec<Vec<u8>>, Error>
+    ensures { IfOk result (λ blobs. map (λ b. b.items) blobs.items ≡ map shown_text rows.now) }
+{
+    let mut blobs = Vec::new(alloc);
+    for row in rows {
+        blobs.push(blob_in(row)?)?;
+    }
+    Ok(blobs)
+}
+
+// The contexts that have a row, in order.
+pub fn contexts_in_order<S: Alter>(
+    alloc: Global,
+    conn: &mut Connection<S>,
+) -> Result<Vec<Vec<u8>>, Error>
+    ensures { HasCleanDisk (state S.Store conn.new) → IsStore (state S.Store conn.old).now
+        → IfOk result (λ contexts. map (λ c. c.items) contexts.items ≡ contexts_in (results_in (state S.Store conn.old).now)) }
+{
+    let rows = context_rows(conn)?;
+    blobs_shown(alloc, &rows)
+}
+
+// The rows of a context, in the order of their trees.
+fn rows_within<S: Alter>(conn: &mut Connection<S>, context: &[u8]) -> Result<Vec<Row>, Error>
+    ensures { HasCleanDisk (state S.Store conn.new) → IsStore (state S.Store conn.old).now
+        → IfOk result (λ rows. map shown_pair rows.items ≡ within context.now (entries (results_in (state S.Store conn.old).now))) }
+{
+    conn.query_all(SELECT_RESULTS, &[ValueRef::Blob(context)])
+}
+
+fn stored_row(row: &Row) -> Result<StoredRow, Error>
+    ensures { IfOk result (λ stored. pair_of stored ≡ shown_pair row.now) }
+{
+    let tree: Vec<u8> = row.get(0)?;
+    let value: Vec<u8> = row.get(1)?;
+    Ok(StoredRow { tree, value })
+}
+
+fn rows_shown(alloc: Global, rows: &[Row]) -> Result<Vec<StoredRow>, Error>
+    ensures { IfOk result (λ found. map pair_of found.items ≡ map shown_pair rows.now) }
+{
+    let mut found = Vec::new(alloc);
+    for row in rows {
+        found.push(stored_row(row)?)?;
+    }
+    Ok(found)
+}
+
+// The rows of a context with their values, in the order of their trees.
+pub fn results_in_order<S: Alter>(
+    alloc: Global,
+    conn: &mut Connection<S>,
+    context: &[u8],
+) -> Result<Vec<StoredRow>, Error>
+    ensures { HasCleanDisk (state S.Store conn.new) → IsStore (state S.Store conn.old).now
+        → IfOk result (λ found. map pair_of found.items ≡ within context.now (entries (results_in (state S.Store conn.old).now))) }
+{
+    let rows = rows_within(conn, context)?;
+    rows_shown(alloc, &rows)
+}
+
+// Puts rows of a context, all or none.
+pub fn put_rows<S: Alter>(
+    conn: &mut Connection<S>,
+    context: &[u8],
+    rows: &[StoredRow],
+) -> Result<(), Error> {
+    if !conn.is_autocommit() {
+        return Err(Error::SqliteFailure(ErrorCode::TransactionState));
+    }
+    let mut tx = conn.transaction();
+    for row in rows {
+        tx.execute(
+            PUT_RESULT,
+            &[
+                ValueRef::Blob(context),
+                ValueRef::Blob(&row.tree),
+                ValueRef::Blob(&row.value),
+            ],
+        )?;
+    }
+    tx.commit()
+}
