@@ -5,7 +5,9 @@
 --   IsConstants ty held c == c gives each tree its constant, with its mass, where the values `held`
 --       of trees are taken as they are: they need not be the constants of their trees
 --   expected_symbol s == the symbol E[t] for the symbol t of a tree
+--   is_vanishing ty s == s is the symbol of a tree that vanishes
 --   has_vanishing ty m == a tree of the monomial m vanishes
+--   expectation_of ty t == the expectation of one term over symbols of trees
 --   expectation_terms ty ts == the expectation of a sum over symbols of trees, term by term
 use Rattle.std.specs.Prelude.{Bool, false, if◌then◌else◌, List, [], ◌∷◌, map, flat_map, Option}
 use Rattle.std.specs.List.{list_any}
