@@ -52,8 +52,8 @@ on_length (WithText member name) (Known n) rest = on_body member name n rest
 abbrev pub on_ask : Place → Option Ask → List Field → List ℕ → Decision
 on_ask place None fields rest = Refused (MethodNotAllowed (methods_of place))
 on_ask place (Some ask) fields rest =
-    if has_field transfer_encoding fields then Refused LengthRequired else on_length ask
-        (body_length fields) rest
+    if has_field transfer_encoding fields then Refused LengthRequired
+    else on_length ask (body_length fields) rest
 
 abbrev pub on_place : Option Place → List ℕ → List Field → List ℕ → Decision
 on_place None method fields rest = Refused NotFound

@@ -40,14 +40,21 @@ tail_of Parts.Detail = codes "/detail"
 
 -- the route of a part of a project, after its name
 abbrev pub project_row : Part → Row
-project_row part =
-    (codes "/projects/" ++ param_token ∷ tail_of part,
-        record { pattern = codes "/projects/" ++ param_token ∷ tail_of part;
-        text = codes "/projects/{name}" ++ tail_of part; names = (11, 15) ∷ []; value = Some part })
+project_row part = (
+  codes "/projects/" ++ param_token ∷ tail_of part,
+  record {
+    pattern = codes "/projects/" ++ param_token ∷ tail_of part;
+    text = codes "/projects/{name}" ++ tail_of part;
+    names = (11, 15) ∷ [];
+    value = Some part;
+  },
+)
 
 abbrev pub projects_row : Row
-projects_row = (codes "/projects", record
-    { pattern = codes "/projects"; text = codes "/projects"; names = []; value = None })
+projects_row = (
+  codes "/projects",
+  record { pattern = codes "/projects"; text = codes "/projects"; names = []; value = None },
+)
 
 abbrev pub desk_rows : RowsOf (RouteOf (Option Part))
 desk_rows =
