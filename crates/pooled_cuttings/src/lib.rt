@@ -2,10 +2,15 @@
 //! steps by which they grow edge by edge.
 #![tactic(auto)]
 
+mod beside;
 mod grove;
+mod inside;
 mod keys;
 mod laws;
+mod made;
+mod outside;
 mod right;
+mod steps;
 mod tables;
 
 pub use grove::Grove;
