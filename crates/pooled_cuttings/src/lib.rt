@@ -3,6 +3,8 @@
 #![tactic(auto)]
 
 mod beside;
+mod closing;
+mod collecting;
 mod grove;
 mod inside;
 mod keys;
@@ -13,6 +15,7 @@ mod right;
 mod steps;
 mod tables;
 
+pub use collecting::{collect_extracted, collect_recentred};
 pub use grove::Grove;
 pub use keys::{ExtractKey, OpenKey, RightKey};
 pub use laws::{equal_keys, growth_laws, right_growth_laws};

@@ -29,7 +29,7 @@ fn outside_key(
     y: &OpenKey,
 ) -> Result<OpenKey, PoolError>
     requires step { IsEdgeStep grove.old.pool.types step.now }
-    requires shift { sum s.now.entries ≤ 4096 }
+    requires shift { sum s.now.entries ≤ 8192 }
     requires x { IsExtractKey grove.old x.now }
     requires y { IsOpenKey grove.old y.now }
     requires fits { IsOpenFit grove.old.pool.types (outside s.now.entries step.now.kind.0
@@ -81,7 +81,7 @@ fn push_outside(
     lines: &mut Vec<(OpenKey, Saturated)>,
 ) -> Result<(), PoolError>
     requires step { IsEdgeStep grove.old.pool.types step.now }
-    requires shift { sum s.now.entries ≤ 4096 }
+    requires shift { sum s.now.entries ≤ 8192 }
     requires x { IsExtractLine grove.old x.now }
     requires y { IsOpenLine grove.old y.now }
     requires lines { AreOpenLines grove.old lines.old.items }
@@ -115,7 +115,7 @@ fn push_outside_row(
     lines: &mut Vec<(OpenKey, Saturated)>,
 ) -> Result<(), PoolError>
     requires step { IsEdgeStep grove.old.pool.types step.now }
-    requires shift { sum s.now.entries ≤ 4096 }
+    requires shift { sum s.now.entries ≤ 8192 }
     requires x { IsExtractLine grove.old x.now }
     requires ys { AreOpenLines grove.old ys.now }
     requires lines { AreOpenLines grove.old lines.old.items }
@@ -148,7 +148,7 @@ fn push_outside_rows(
     lines: &mut Vec<(OpenKey, Saturated)>,
 ) -> Result<(), PoolError>
     requires step { IsEdgeStep grove.old.pool.types step.now }
-    requires shift { sum s.now.entries ≤ 4096 }
+    requires shift { sum s.now.entries ≤ 8192 }
     requires xs { AreExtractLines grove.old xs.now }
     requires ys { AreOpenLines grove.old ys.now }
     requires lines { AreOpenLines grove.old lines.old.items }
@@ -181,7 +181,7 @@ pub(crate) fn push_outside_shifts(
     lines: &mut Vec<(OpenKey, Saturated)>,
 ) -> Result<(), PoolError>
     requires step { IsEdgeStep grove.old.pool.types step.now }
-    requires shifts { AllByRecursion (λ s. sum s.entries ≤ 4096) shifts.now }
+    requires shifts { AllByRecursion (λ s. sum s.entries ≤ 8192) shifts.now }
     requires xs { AreExtractLines grove.old xs.now }
     requires ys { AreOpenLines grove.old ys.now }
     requires lines { AreOpenLines grove.old lines.old.items }
