@@ -1,4 +1,6 @@
 pub mod Degrees
+pub mod Fitting
 pub mod Groves
 pub mod Means
+pub mod Members
 pub mod Rows

@@ -11,6 +11,7 @@ ghost use Rattle.pooled_cuttings.specs.Groves.{IsGrownGrove};
 ghost use Rattle.pooled_cuttings.specs.Lines.{opened_in, opened_terms_in, extracted_in, extracted_terms_in, IsOpenKey, IsExtractKey, IsOpenLine, AreOpenLines, AreExtractLines};
 
 use crate::grove::Grove;
+use crate::lines::push_line;
 use crate::keys::{ExtractKey, OpenKey};
 use degree_numbers::{Degree, Multi, Types};
 use exact_sums::Saturated;
@@ -81,7 +82,7 @@ fn push_closed(
     grove.laws();
     if is_finished(grove.pool(), x.0.part) {
         let key = closed_key(grove, alloc, &x.0)?;
-        lines.push((key, x.1))?;
+        push_line(lines, (key, x.1))?;
     }
     Ok(())
 }

@@ -50,7 +50,7 @@ impl<'a> Grove<'a> {
     /// A grove with the trees of a pool and no forest. Its forests will stand in the arena. Fails
     /// only for want of memory; the pool is then given up.
     pub fn new(alloc: Global, arena: &'a Bump, pool: Pool<'a>) -> Result<Grove<'a>, PoolError>
-        ensures { IfOk result (λ g. g ≡ record { pool = pool; forests = [] }) }
+        ensures { IfOk result (λ g. g ≡ record { pool = pool.entry; forests = [] }) }
     {
         let forests = ForestPool::new(alloc, arena)?;
         Ok(Grove { pool, forests })

@@ -9,6 +9,7 @@ mod grove;
 mod inside;
 mod keys;
 mod laws;
+mod lines;
 mod made;
 mod outside;
 mod right;
