@@ -172,6 +172,7 @@ impl<'a> Grove<'a> {
             (canon_forest (forest_in self.old f.0 ++ forest_in self.old g.0))) }
         ensures grown { IsGrownGrove self.old self.new }
     {
+        self.laws();
         self.forests.join(alloc, &self.pool, f, g)
     }
 
@@ -188,6 +189,7 @@ impl<'a> Grove<'a> {
             (with_tree (tree_at self.old.pool part.0) (forest_in self.old above.0))) }
         ensures grown { IsGrownGrove self.old self.new }
     {
+        self.laws();
         let all = with_id(alloc, part, self.forests.trees(above))?;
         self.forest(alloc, all.as_slice())
     }
