@@ -1,6 +1,8 @@
 pub mod Degrees
+pub mod Finished
 pub mod Fitting
 pub mod Groves
+pub mod MadeKeys
 pub mod Makings
 pub mod Means
 pub mod Members
