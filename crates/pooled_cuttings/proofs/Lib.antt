@@ -6,5 +6,6 @@ pub mod MadeKeys
 pub mod Makings
 pub mod Means
 pub mod Members
+pub mod ProductRows
 pub mod Rows
 pub mod SameKeys

@@ -1,5 +1,5 @@
 -- Keys that are made of others, and their coefficients.
-use Rattle.std.proofs.Common.{◌≡◌, ℕ, zero, suc, ◌+◌, ◌*◌, ◌<◌, ◌≤◌, ℤ, Bool, true, false, not, List, [], ◌∷◌, ◌++◌, map, filter, length, sum, refl, sym, ap, ◌∙◌, arith, subst, append-nil}
+use Rattle.std.proofs.Common.{◌≡◌, ℕ, zero, suc, ◌+◌, ◌*◌, ◌<◌, ◌≤◌, ℤ, Bool, true, false, not, List, [], ◌∷◌, ◌++◌, map, filter, length, sum, get_or, ◌^◌, ◌&&◌, refl, sym, ap, ◌∙◌, arith, subst, append-nil}
 use Rattle.std.specs.List.{AllByRecursion}
 use Rattle.std.specs.Ordering.{int_cmp, is_gt}
 use Rattle.std.proofs.lemmas.Option.{slice_get_within}
@@ -14,7 +14,7 @@ use Rattle.plain_trees.specs.Canon.{canon, IsSame, exchanged, on_both, unchanged
 use Rattle.plain_trees.specs.Degree.{HasTypes, degree_of}
 use Rattle.plain_trees.specs.Joined.{raised, joined}
 use Rattle.plain_trees.specs.Multinomials.{choose}
-use Rattle.plain_trees.specs.Coproducts.{Extracted, with_tree, canon_forest}
+use Rattle.plain_trees.specs.Coproducts.{Extracted, with_tree, canon_forest, is_extracted}
 use Rattle.plain_trees.proofs.CanonLaws.{canon_same}
 use Rattle.plain_trees.proofs.DegreeLaws.{canon_degree, same_types}
 use Rattle.plain_trees.proofs.Inserts.{canon_count, canon_sum}
@@ -22,15 +22,16 @@ use Rattle.tree_pool.specs.Content.{Content, Holds, tree_at}
 use Rattle.tree_pool.specs.declared.node.TreeId.{TreeId}
 use Rattle.tree_pool.specs.declared.forest.ForestId.{ForestId}
 use Rattle.tree_pool.proofs.Walks.{at_holds}
+use Rattle.tree_cuttings.specs.Roots.{has_edge}
 use Rattle.cutting_sizes.proofs.Counts.{sum-plus}
-use Rattle.cutting_tables.specs.Keys.{Opened, inside, inside_factor, outside, outside_factor, beside, closing}
+use Rattle.cutting_tables.specs.Keys.{Opened, inside, inside_factor, outside, outside_factor, beside, closes, closing}
 use Rattle.cutting_tables.proofs.Collecting.{product_value}
 use Rattle.pooled_cuttings.specs.declared.keys.OpenKey.{OpenKey}
 use Rattle.pooled_cuttings.specs.declared.keys.ExtractKey.{ExtractKey}
 use Rattle.pooled_cuttings.specs.Groves.{GroveContent, IsGrove, IsGrownGrove, forest_in}
 use Rattle.pooled_cuttings.specs.Lines.{opened_in, extracted_in, opened_terms_in, extracted_terms_in, IsOpenKey, IsExtractKey, IsOpenLine, IsExtractLine, AreOpenLines, AreExtractLines}
 use Rattle.pooled_cuttings.specs.Products.{is_low, kept_terms, HoldsForest, CanHold}
-use Rattle.pooled_cuttings.proofs.Groves.{grove_trans, tree_grown, forest_grown, holds_grown, holds_forest_grown}
+use Rattle.pooled_cuttings.proofs.Groves.{more_trees, grove_trans, tree_grown, forest_grown, holds_grown, holds_forest_grown}
 use Rattle.pooled_cuttings.proofs.Means.{open_of, pair_of, open_lines_grown, open_terms_grown, extract_lines_grown, extract_terms_grown, rekeyed-append}
 use Rattle.pooled_cuttings.proofs.Rows.{all_append}
 
@@ -54,6 +55,9 @@ pub low_canon : (ty : Types) (most : ℤ) (t : Plain) → is_low ty most (canon 
 low_canon ty most t = ap (λ (d : Degree). not (is_gt (int_cmp d.a most))) (canon_degree ty t)
 
 -- decorations of roots
+sum-cons : (x : ℕ) (xs : List ℕ) → sum (x ∷ xs) ≡ x + sum xs
+sum-cons x xs = let all : sum (x ∷ xs) ≡ 0 + x + sum xs = sum_by_from (λ y. y) (0 + x) xs in omega (arith, all)
+
 sum_root : (t : Plain) → sum (root_of t) ≤ decoration_sum_of t
 sum_root (bare n) = omega arith
 sum_root (graft k p c t) = omega (arith, sum_root t)
@@ -227,3 +231,46 @@ low_outside g q b s most y e h = sym (h ∙ ap (λ (c : Content). is_low c.types
 
 pub nothing_kept : (ty : Types) (most : ℤ) (ts : List (Opened × ℕ)) (x : Opened) (n : ℕ) → is_low ty most x.part ≡ false → ts ≡ ts ++ kept_terms ty most ((x, n) ∷ [])
 nothing_kept ty most ts x n h = sym (append-nil ts) ∙ ap (λ (us : List (Opened × ℕ)). ts ++ us) (sym (kept_none ty most x n h))
+
+entry_most : (xs : List ℕ) (k : ℕ) → get_or xs k 0 ≤ sum xs
+entry_most [] k = omega arith
+entry_most (x ∷ xs) zero = omega (arith, sum-cons x xs)
+entry_most (x ∷ xs) (suc k) = omega (arith, sum-cons x xs, entry_most xs k)
+
+pub plus_fits : (m n : List ℕ) → sum m ≤ 4096 → sum n ≤ 8192 → (k : ℕ) → get_or m k 0 + get_or n k 0 < 2 ^ 31
+plus_fits m n h i k = omega (arith, entry_most m k, entry_most n k, h, i)
+
+-- the same of extraction keys
+pub extract_pushed_saturated : (g h : GroveContent) (ls new : List (ExtractKey × ℕ)) (k : ExtractKey) (v : ℕ) (x : Extracted) (n : ℕ) → IsGrove g → IsGrownGrove g h →
+    AreExtractLines g ls → extracted_in h k ≡ x → v ≡ saturated n → new ≡ ls ++ (k, v) ∷ [] →
+    extracted_terms_in h new ≡ extracted_terms_in g ls ++ saturated_terms ((x, n) ∷ [])
+extract_pushed_saturated g h ls new k v x n is a known means value e = extract_pushed g h ls new k v x (saturated n) is a known means value e
+
+pub closed_held : (g h : GroveContent) (x : OpenKey) (forest : ForestId) → IsOpenKey g x → IsGrownGrove g h →
+    HoldsForest h forest.0 (with_tree (tree_at g.pool x.part.0) (forest_in g x.above.0)) →
+    IsExtractKey h (record { forest = forest; quotient = x.quotient }) × (extracted_in h (record { forest = forest; quotient = x.quotient }) ≡ closing (opened_in g x))
+closed_held g h x forest k a there =
+    let n = more_trees g h a in
+    let q = k.quotient in (
+      record { forest = there.known; quotient = omega (arith, n, q) },
+      ap (λ (fs : List Plain). pair_of fs (tree_at h.pool x.quotient.0)) there.trees
+      ∙ ap (pair_of (with_tree (tree_at g.pool x.part.0) (forest_in g x.above.0))) (tree_grown g h x.quotient.0 a q),
+    )
+
+pub closed_one : (ty : Types) (x : Opened) (n : ℕ) → closes ty x ≡ true → rekeyed closing (filter (λ e. closes ty e.0) ((x, n) ∷ [])) ≡ (closing x, n) ∷ []
+closed_one ty x n h = rw h refl
+
+pub nothing_closed : (ty : Types) (ts : List (Extracted × ℕ)) (x : Opened) (n : ℕ) → closes ty x ≡ false →
+    ts ≡ ts ++ rekeyed closing (filter (λ e. closes ty e.0) ((x, n) ∷ []))
+nothing_closed ty ts x n h =
+    sym (append-nil ts) ∙ ap (λ (us : List (Extracted × ℕ)). ts ++ us) (sym (none_closed ty x n h))
+  where
+    none_closed : (ty : Types) (x : Opened) (n : ℕ) → closes ty x ≡ false → rekeyed closing (filter (λ e. closes ty e.0) ((x, n) ∷ [])) ≡ []
+    none_closed ty x n h = rw h refl
+
+pub finished_at : (g : GroveContent) (q : Content) (b : Bool) (x : OpenKey) → q ≡ g.pool →
+    b ≡ has_edge (tree_at q x.part.0) && is_extracted q.types (tree_at q x.part.0) → closes g.pool.types (opened_in g x) ≡ b
+finished_at g q b x e h = sym (h ∙ ap (λ (c : Content). has_edge (tree_at c x.part.0) && is_extracted c.types (tree_at c x.part.0)) e)
+
+pub once : (c d : ℕ) → saturating_times c d ≡ saturated (c * (1 * d))
+once c d = ap saturated (omega arith)
