@@ -2,6 +2,7 @@ pub mod Degrees
 pub mod Finished
 pub mod Fitting
 pub mod Groves
+pub mod Loops
 pub mod MadeKeys
 pub mod Makings
 pub mod Means
