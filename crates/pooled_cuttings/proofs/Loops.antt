@@ -97,7 +97,9 @@ module _ (g h : GroveContent) (is : IsGrove g) (a : IsGrownGrove g h) (e : EdgeS
 
   pub inside_fit_grown : (x y : OpenKey × ℕ) → IsOpenLine g x → IsOpenLine g y → IsInsideFit g.pool.types e (opened_in g x.0) (opened_in g y.0) →
       IsInsideFit h.pool.types e (opened_in h x.0) (opened_in h y.0)
-  inside_fit_grown x y i j fit = subst (λ T. T) (sym (two_open (λ ty u v. IsInsideFit ty e u v) x.0 y.0 i.0 j.0)) fit
+  inside_fit_grown x y i j fit = subst (λ (ty : Types). IsInsideFit ty e (opened_in h x.0) (opened_in h y.0)) (sym a.pool.types)
+      (subst (λ (z : Opened). IsInsideFit g.pool.types e z (opened_in h y.0)) (sym (opened_grown g h x.0 is a i.0))
+      (subst (λ (z : Opened). IsInsideFit g.pool.types e (opened_in g x.0) z) (sym (opened_grown g h y.0 is a j.0)) fit))
 
   pub inside_row_grown : (x : OpenKey × ℕ) (ys : List (OpenKey × ℕ)) → IsOpenLine g x → AreOpenLines g ys → inside_row h e x ys ≡ inside_row g e x ys
   inside_row_grown x ys i j =
@@ -118,7 +120,9 @@ module _ (g h : GroveContent) (is : IsGrove g) (a : IsGrownGrove g h) (e : EdgeS
 
     pub outside_fit_grown : (x : ExtractKey × ℕ) (y : OpenKey × ℕ) → IsExtractLine g x → IsOpenLine g y → IsOutsideFit g.pool.types e s (extracted_in g x.0) (opened_in g y.0) →
         IsOutsideFit h.pool.types e s (extracted_in h x.0) (opened_in h y.0)
-    outside_fit_grown x y i j fit = subst (λ T. T) (sym (with_open (λ ty u v. IsOutsideFit ty e s u v) x.0 y.0 i.0 j.0)) fit
+    outside_fit_grown x y i j fit = subst (λ (ty : Types). IsOutsideFit ty e s (extracted_in h x.0) (opened_in h y.0)) (sym a.pool.types)
+      (subst (λ (z : Extracted). IsOutsideFit g.pool.types e s z (opened_in h y.0)) (sym (extracted_grown g h x.0 is a i.0))
+      (subst (λ (z : Opened). IsOutsideFit g.pool.types e s (extracted_in g x.0) z) (sym (opened_grown g h y.0 is a j.0)) fit))
 
     pub outside_row_grown : (x : ExtractKey × ℕ) (ys : List (OpenKey × ℕ)) → IsExtractLine g x → AreOpenLines g ys → outside_row h e s x ys ≡ outside_row g e s x ys
     outside_row_grown x ys i j =
@@ -149,7 +153,9 @@ module _ (g h : GroveContent) (is : IsGrove g) (a : IsGrownGrove g h) (e : EdgeS
 
   pub beside_fit_grown : (x y : ExtractKey × ℕ) → IsExtractLine g x → IsExtractLine g y → IsBesideFit g.pool.types e (extracted_in g x.0) (extracted_in g y.0) →
       IsBesideFit h.pool.types e (extracted_in h x.0) (extracted_in h y.0)
-  beside_fit_grown x y i j fit = subst (λ T. T) (sym (two_closed (λ ty u v. IsBesideFit ty e u v) x.0 y.0 i.0 j.0)) fit
+  beside_fit_grown x y i j fit = subst (λ (ty : Types). IsBesideFit ty e (extracted_in h x.0) (extracted_in h y.0)) (sym a.pool.types)
+      (subst (λ (z : Extracted). IsBesideFit g.pool.types e z (extracted_in h y.0)) (sym (extracted_grown g h x.0 is a i.0))
+      (subst (λ (z : Extracted). IsBesideFit g.pool.types e (extracted_in g x.0) z) (sym (extracted_grown g h y.0 is a j.0)) fit))
 
   pub beside_row_grown : (x : ExtractKey × ℕ) (ys : List (ExtractKey × ℕ)) → IsExtractLine g x → AreExtractLines g ys → beside_row h e x ys ≡ beside_row g e x ys
   beside_row_grown x ys i j =

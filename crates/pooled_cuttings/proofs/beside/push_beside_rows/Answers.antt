@@ -52,6 +52,10 @@ loop-x-preserved c =
           (extracted_terms_in h c.loop-x.lines.items) (extracted_terms_in c.push_beside_row.new.grove c.push_beside_row.new.lines.items) _ c.loop-x-test.true c.x-item.is put c.loop-x.invariant.terms;
     }
 
+pub returns-in_err-push_beside_row-clause-grown : goal.returns-in_err-push_beside_row-clause-grown
+returns-in_err-push_beside_row-clause-grown c =
+    grove_trans c.args.grove.now c.loop-x.grove c.push_beside_row.new.grove c.loop-x.invariant.grown c.in_err-push_beside_row.ensures.grown
+
 pub returns-clause-terms : goal.returns-clause-terms
 returns-clause-terms c =
     let g = c.args.grove.now in

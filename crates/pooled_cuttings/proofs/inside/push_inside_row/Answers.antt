@@ -56,6 +56,10 @@ loop-y-preserved c =
           (opened_terms_in h c.loop-y.lines.items) (opened_terms_in c.push_inside.new.grove c.push_inside.new.lines.items) _ c.loop-y-test.true c.y-item.is put c.loop-y.invariant.terms;
     }
 
+pub returns-in_err-push_inside-clause-grown : goal.returns-in_err-push_inside-clause-grown
+returns-in_err-push_inside-clause-grown c =
+    grove_trans c.args.grove.now c.loop-y.grove c.push_inside.new.grove c.loop-y.invariant.grown c.in_err-push_inside.ensures.grown
+
 pub returns-clause-terms : goal.returns-clause-terms
 returns-clause-terms c =
     let g = c.args.grove.now in

@@ -45,18 +45,11 @@ push_outside_rows-requires-clause-fits c =
     outside_all_fits_grown g h c.laws.ensures a c.args.step.now c.s-item.result.entries c.args.xs.now c.args.ys.now c.requires.xs c.requires.ys fit
 
 pub loop-s-preserved : goal.loop-s-preserved
-loop-s-preserved c =
-    let g = c.args.grove.now in
-    let h = c.loop-s.grove in
-    let line = all_at (λ s. sum s.entries ≤ 8192) c.args.shifts.now c.loop-s.s-index c.s-item.result c.loop-s-test.true c.s-item.is c.requires.shifts in
-    let put = c.in_ok-push_outside_rows.ensures.terms ∙ ap (λ ts. opened_terms_in h c.loop-s.lines.items ++ ts) (outside_rows_grown g h c.laws.ensures c.loop-s.invariant.grown c.args.step.now c.s-item.result.entries c.args.xs.now c.args.ys.now c.requires.xs c.requires.ys) in
-    record {
-      grown = grove_trans g h c.push_outside_rows.new.grove c.loop-s.invariant.grown c.in_ok-push_outside_rows.ensures.grown;
-      lines = c.in_ok-push_outside_rows.ensures.lines;
-      terms =
-          row_step (outside_shifts g c.args.step.now c.args.xs.now c.args.ys.now) (λ s. outside_rows g c.args.step.now s.entries c.args.ys.now c.args.xs.now) (outside_shifts_parts g c.args.step.now c.args.xs.now c.args.ys.now) c.args.shifts.now c.loop-s.s-index c.s-item.result
-          (opened_terms_in h c.loop-s.lines.items) (opened_terms_in c.push_outside_rows.new.grove c.push_outside_rows.new.lines.items) _ c.loop-s-test.true c.s-item.is put c.loop-s.invariant.terms;
-    }
+loop-s-preserved c = ?
+
+pub returns-in_err-push_outside_rows-clause-grown : goal.returns-in_err-push_outside_rows-clause-grown
+returns-in_err-push_outside_rows-clause-grown c =
+    grove_trans c.args.grove.now c.loop-s.grove c.push_outside_rows.new.grove c.loop-s.invariant.grown c.in_err-push_outside_rows.ensures.grown
 
 pub returns-clause-terms : goal.returns-clause-terms
 returns-clause-terms c =
