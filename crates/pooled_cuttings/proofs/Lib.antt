@@ -10,3 +10,4 @@ pub mod Members
 pub mod ProductRows
 pub mod Rows
 pub mod SameKeys
+pub mod SameSums

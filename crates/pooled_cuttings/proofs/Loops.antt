@@ -2,6 +2,7 @@
 use Rattle.std.proofs.Common.{◌≡◌, ℕ, ◌+◌, ◌*◌, ◌<◌, ◌≤◌, List, [], ◌∷◌, ◌++◌, map, flat_map, filter, drop, length, get_or, refl, sym, ap, ◌∙◌, subst}
 use Rattle.std.specs.List.{AllByRecursion}
 use Rattle.std.proofs.lemmas.List.Elements.{filter-append}
+use Rattle.std.proofs.lemmas.List.{get_or_default}
 use Rattle.exact_sums.specs.Keyed.{rekeyed, scaled, products, products_with, saturated_terms}
 use Rattle.degree_numbers.specs.declared.types.Types.{Types}
 use Rattle.degree_numbers.specs.declared.multi.Multi.{Multi}
@@ -220,3 +221,10 @@ pub closed_row_parts : (g : GroveContent) (x : OpenKey × ℕ) (xs : List (OpenK
 closed_row_parts g x xs =
     ap (rekeyed closing) (filter-append (λ (e : Opened × ℕ). closes g.pool.types e.0) ((opened_in g x.0, x.1) ∷ []) (opened_terms_in g xs))
     ∙ rekeyed-append closing (filter (λ (e : Opened × ℕ). closes g.pool.types e.0) ((opened_in g x.0, x.1) ∷ [])) (filter (λ (e : Opened × ℕ). closes g.pool.types e.0) (opened_terms_in g xs))
+
+-- the shift at a place
+abbrev pub shift_at : List Multi → ℕ → Multi
+shift_at ss i = get_or ss i (record { entries = [] })
+
+pub shift_is : (ss : List Multi) (i : ℕ) → i < length ss → shift_at ss i ≡ get_or ss i (shift_at ss i)
+shift_is ss i lt = get_or_default ss i (record { entries = [] }) (shift_at ss i) lt

@@ -3,7 +3,7 @@ use Rattle.pooled_cuttings.specs.Lines.{opened_terms_in, IsOpenLine, IsExtractLi
 use Rattle.pooled_cuttings.proofs.Groves.{grove_refl, grove_trans}
 use Rattle.pooled_cuttings.proofs.Means.{open_line_grown, extract_line_grown, open_lines_grown, extract_lines_grown}
 use Rattle.pooled_cuttings.proofs.Rows.{row_step, row_end, all_at}
-use Rattle.pooled_cuttings.proofs.Loops.{outside_rows, outside_shifts, outside_shifts_parts, outside_rows_grown, outside_all_fits_grown}
+use Rattle.pooled_cuttings.proofs.Loops.{outside_rows, outside_shifts, outside_shifts_parts, outside_rows_grown, outside_all_fits_grown, shift_at, shift_is}
 use Rattle.pooled_cuttings.specs.Products.{IsInsideFit, IsOutsideFit, IsBesideFit, AreOutsideFit}
 use Rattle.std.specs.List.{AllByRecursion}
 use Rattle.std.proofs.Common.{sum, ◌≤◌}
@@ -16,7 +16,7 @@ push_outside_rows-requires-clause-step c =
 
 pub push_outside_rows-requires-clause-shift : goal.push_outside_rows-requires-clause-shift
 push_outside_rows-requires-clause-shift c =
-    all_at (λ s. sum s.entries ≤ 8192) c.args.shifts.now c.loop-s.s-index c.s-item.result c.loop-s-test.true c.s-item.is c.requires.shifts
+    all_at (λ s. sum s.entries ≤ 8192) c.args.shifts.now c.loop-s.s-index (shift_at c.args.shifts.now c.loop-s.s-index) c.loop-s-test.true (shift_is c.args.shifts.now c.loop-s.s-index c.loop-s-test.true) c.requires.shifts
 
 pub push_outside_rows-requires-clause-xs : goal.push_outside_rows-requires-clause-xs
 push_outside_rows-requires-clause-xs c =
@@ -41,11 +41,22 @@ push_outside_rows-requires-clause-fits c =
     let g = c.args.grove.now in
     let h = c.loop-s.grove in
     let a = c.loop-s.invariant.grown in
-    let fit = all_at (λ s. AreOutsideFit g c.args.step.now s.entries c.args.xs.now c.args.ys.now) c.args.shifts.now c.loop-s.s-index c.s-item.result c.loop-s-test.true c.s-item.is c.requires.fits in
-    outside_all_fits_grown g h c.laws.ensures a c.args.step.now c.s-item.result.entries c.args.xs.now c.args.ys.now c.requires.xs c.requires.ys fit
+    let fit = all_at (λ s. AreOutsideFit g c.args.step.now s.entries c.args.xs.now c.args.ys.now) c.args.shifts.now c.loop-s.s-index (shift_at c.args.shifts.now c.loop-s.s-index) c.loop-s-test.true (shift_is c.args.shifts.now c.loop-s.s-index c.loop-s-test.true) c.requires.fits in
+    outside_all_fits_grown g h c.laws.ensures a c.args.step.now (shift_at c.args.shifts.now c.loop-s.s-index).entries c.args.xs.now c.args.ys.now c.requires.xs c.requires.ys fit
 
 pub loop-s-preserved : goal.loop-s-preserved
-loop-s-preserved c = ?
+loop-s-preserved c =
+    let g = c.args.grove.now in
+    let h = c.loop-s.grove in
+    let line = all_at (λ s. sum s.entries ≤ 8192) c.args.shifts.now c.loop-s.s-index (shift_at c.args.shifts.now c.loop-s.s-index) c.loop-s-test.true (shift_is c.args.shifts.now c.loop-s.s-index c.loop-s-test.true) c.requires.shifts in
+    let put = c.in_ok-push_outside_rows.ensures.terms ∙ ap (λ ts. opened_terms_in h c.loop-s.lines.items ++ ts) (outside_rows_grown g h c.laws.ensures c.loop-s.invariant.grown c.args.step.now (shift_at c.args.shifts.now c.loop-s.s-index).entries c.args.xs.now c.args.ys.now c.requires.xs c.requires.ys) in
+    record {
+      grown = grove_trans g h c.push_outside_rows.new.grove c.loop-s.invariant.grown c.in_ok-push_outside_rows.ensures.grown;
+      lines = c.in_ok-push_outside_rows.ensures.lines;
+      terms =
+          row_step (outside_shifts g c.args.step.now c.args.xs.now c.args.ys.now) (λ s. outside_rows g c.args.step.now s.entries c.args.ys.now c.args.xs.now) (outside_shifts_parts g c.args.step.now c.args.xs.now c.args.ys.now) c.args.shifts.now c.loop-s.s-index (shift_at c.args.shifts.now c.loop-s.s-index)
+          (opened_terms_in h c.loop-s.lines.items) (opened_terms_in c.push_outside_rows.new.grove c.push_outside_rows.new.lines.items) _ c.loop-s-test.true (shift_is c.args.shifts.now c.loop-s.s-index c.loop-s-test.true) put c.loop-s.invariant.terms;
+    }
 
 pub returns-in_err-push_outside_rows-clause-grown : goal.returns-in_err-push_outside_rows-clause-grown
 returns-in_err-push_outside_rows-clause-grown c =
