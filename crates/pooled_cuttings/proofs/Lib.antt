@@ -8,6 +8,8 @@ pub mod Makings
 pub mod Means
 pub mod Members
 pub mod ProductRows
+pub mod RightKeys
+pub mod RightLoops
 pub mod Rows
 pub mod SameKeys
 pub mod SameSums

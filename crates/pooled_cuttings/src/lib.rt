@@ -9,10 +9,12 @@ mod grove;
 mod inside;
 mod keys;
 mod laws;
+mod left_products;
 mod lines;
 mod made;
 mod outside;
 mod right;
+mod right_products;
 mod steps;
 mod tables;
 
