@@ -8,6 +8,7 @@ pub mod Makings
 pub mod Means
 pub mod Members
 pub mod ProductRows
+pub mod RightFitting
 pub mod RightKeys
 pub mod RightLoops
 pub mod Rows

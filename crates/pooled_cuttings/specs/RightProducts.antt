@@ -6,14 +6,23 @@
 --   left_terms e xs ys == all products of the first kind
 --   right_terms e c ss ys == all products of the second kind with the shifts ss
 --   AreLeftFit c e xs ys, AreRightFit c e s ys == what the lines give together is small
-use Rattle.std.specs.Prelude.{◌≤◌, ◌<◌, ℕ, List, length, flat_map, sum}
+--   branch_of c e == the degree of the edge e and of the tree above it together
+--   lowered ty d s == the degree d less the scaled size of the shift s
+--   IsRightShifts c e ss == for some ample bound, ss are the shifts within it that leave the branch of e a degree above 0
+use Rattle.std.specs.Prelude.{◌≡◌, ◌≤◌, ◌<◌, ◌*◌, ◌-ℤ◌, ◌<ℤ◌, ℕ, suc, pos, unsigned_abs, List, length, flat_map, sum}
 use Rattle.std.specs.List.{AllByRecursion}
 use Rattle.exact_sums.specs.Keyed.{products, products_with}
 use Rattle.degree_numbers.specs.declared.types.Types.{Types}
+use Rattle.degree_numbers.specs.declared.degree.Degree.{Degree}
+use Rattle.degree_numbers.specs.Degree.{degree_plus}
+use Rattle.degree_numbers.specs.Types.{size_in_units}
 use Rattle.plain_trees.specs.Plain.{Plain}
-use Rattle.plain_trees.specs.Coproducts.{Recentred}
+use Rattle.plain_trees.specs.Degree.{edge_degree_of, degree_of}
+use Rattle.plain_trees.specs.Coproducts.{Recentred, each_direction}
 use Rattle.tree_pool.specs.declared.node.EdgeTo.{EdgeTo}
 use Rattle.tree_pool.specs.Content.{Content, tree_at}
+use Rattle.cutting_sizes.specs.Bounds.{most_shift}
+use Rattle.cutting_tables.specs.Tables.{right_shifts}
 use Rattle.cutting_tables.specs.Keys.{left_inside, left_factor, right_outside, right_factor}
 use Rattle.pooled_cuttings.specs.declared.keys.RightKey.{RightKey}
 use Rattle.pooled_cuttings.specs.Lines.{recentred_in}
@@ -52,3 +61,19 @@ abbrev pub AreRightFit : Content → EdgeTo → List ℕ → List (RightKey × �
 AreRightFit c e s ys =
     AllByRecursion
     (λ y. IsRightFit c.types (right_product e (tree_at c e.child.0) s (recentred_in c y.0))) ys
+
+abbrev pub branch_of : Content → EdgeTo → Degree
+branch_of c e =
+    degree_plus (edge_degree_of c.types e.kind.0 e.p.entries)
+    (degree_of c.types (tree_at c e.child.0))
+
+abbrev pub lowered : Types → Degree → List ℕ → Degree
+lowered ty d s = record { a = d.a -ℤ pos (size_in_units ty s); b = d.b }
+
+pub record IsRightShifts (c : Content) (e : EdgeTo) (ss : List (List ℕ)) : Type 0 where
+  pub most : ℕ
+  pub within : most ≤ most_shift
+  pub ample : (branch_of c e).a <ℤ pos (unsigned_abs c.types.units.den * suc most)
+  pub shifts :
+      ss ≡ right_shifts c.types (each_direction c.types.dims most) e.kind.0 e.p.entries
+      (tree_at c e.child.0)

@@ -15,6 +15,7 @@ mod made;
 mod outside;
 mod right;
 mod right_products;
+mod right_shifts;
 mod steps;
 mod tables;
 

@@ -47,7 +47,7 @@ pub(crate) fn is_low_over(pool: &Pool<'_>, step: &EdgeStep, above: TreeId, rest:
 
 /// What a shift adds to the degree of a component: its scaled size, in units.
 #[tactic(auto, using(crate::proofs::Degrees::shift_most))]
-fn shift_size(types: &Types, s: &Multi) -> i64
+pub(crate) fn shift_size(types: &Types, s: &Multi) -> i64
     requires types { AreTypes types.now }
     requires small { sum s.now.entries ≤ 8192 }
     ensures { result ≡ pos (size_in_units types.now s.now.entries) }
