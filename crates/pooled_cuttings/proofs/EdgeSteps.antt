@@ -1,0 +1,109 @@
+-- One more edge: lines with the sums of the tables of two trees may be put together.
+use Rattle.std.proofs.Common.{◌≡◌, ℕ, suc, ◌+◌, ◌*◌, ◌<◌, ◌≤◌, ℤ, pos, ◌+ℤ◌, Bool, true, false, not, List, [], ◌∷◌, ◌++◌, map, flat_map, filter, length, sum, refl, sym, ap, ◌∙◌, arith, subst, unsigned_abs}
+use Rattle.std.specs.List.{AllByRecursion}
+use Rattle.std.proofs.lemmas.Int.{ints}
+use Rattle.std.specs.Ordering.{int_cmp, is_gt}
+use Rattle.exact_sums.specs.Saturating.{overflow}
+use Rattle.exact_sums.specs.Keyed.{rekeyed, same_by}
+use Rattle.degree_numbers.specs.declared.types.Types.{Types}
+use Rattle.degree_numbers.specs.declared.multi.Multi.{Multi}
+use Rattle.degree_numbers.specs.Types.{AreTypes}
+use Rattle.degree_numbers.specs.Multi.{IsMultiIndex}
+use Rattle.plain_trees.specs.Plain.{Plain, graft}
+use Rattle.plain_trees.specs.Degree.{HasTypes, degree_of}
+use Rattle.plain_trees.specs.Cutting.{limits, shifts}
+use Rattle.plain_trees.specs.Coproducts.{Extracted, each_direction, extracted_order}
+use Rattle.cutting_sizes.specs.Bounds.{IsBounded, most_shift}
+use Rattle.cutting_sizes.specs.Lows.{low}
+use Rattle.cutting_sizes.proofs.Made.{IsBelow, below_is}
+use Rattle.cutting_tables.specs.Keys.{Opened, inside, outside, beside, opened_order}
+use Rattle.cutting_tables.specs.Tables.{closed_terms}
+use Rattle.cutting_tables.specs.Live.{AreSameOpened, AreSameExtracted, is_live, live_terms, tables_within, IsLiveTable}
+use Rattle.cutting_tables.proofs.Closing.{touched_step_types}
+use Rattle.cutting_tables.proofs.Sums.{same_trans}
+use Rattle.pooled_cuttings.specs.declared.keys.OpenKey.{OpenKey}
+use Rattle.pooled_cuttings.specs.declared.keys.ExtractKey.{ExtractKey}
+use Rattle.pooled_cuttings.specs.declared.steps.EdgeStep.{EdgeStep}
+use Rattle.pooled_cuttings.specs.Groves.{GroveContent}
+use Rattle.pooled_cuttings.specs.Lines.{opened_in, extracted_in, opened_terms_in, extracted_terms_in, AreOpenLines, AreExtractLines, IsOpenLine, IsExtractLine}
+use Rattle.pooled_cuttings.specs.Products.{is_low, low_terms, touched_products, CanHold, AreInsideFit, AreOutsideFit, AreBesideFit}
+use Rattle.pooled_cuttings.proofs.Members.{all_more, all_unmapped}
+use Rattle.pooled_cuttings.proofs.Fitting.{IsOpenOf, IsIdleOf, IsClosedOf, open_lines, idle_lines, closed_lines, open_fit, idle_fit, inside_of, outside_of, beside_of, more_shifts, shift_sum}
+
+-- lines and the terms that they mean
+all_meant : {K J : Type 0} (f : K → J) (Q : J → Type 0) (ls : List (K × ℕ)) → AllByRecursion (λ x. Q x.0) (rekeyed f ls) → AllByRecursion (λ l. Q (f l.0)) ls
+all_meant f Q [] a = tt
+all_meant f Q (l ∷ ls) a = (a.0, all_meant f Q ls a.1)
+
+open_above : (g : GroveContent) (ls : List (OpenKey × ℕ)) → AreOpenLines g ls → AllByRecursion (λ x. 0 < x.1) (opened_terms_in g ls)
+open_above g [] a = tt
+open_above g (l ∷ ls) a = (a.0.1, open_above g ls a.1)
+
+extract_above : (g : GroveContent) (ls : List (ExtractKey × ℕ)) → AreExtractLines g ls → AllByRecursion (λ x. 0 < x.1) (extracted_terms_in g ls)
+extract_above g [] a = tt
+extract_above g (l ∷ ls) a = (a.0.1, extract_above g ls a.1)
+
+-- low parts are live ones
+low_live : (ty : Types) (b : ℕ) (most : ℤ) (t part : Plain) → most ≡ low ty t +ℤ pos b → is_low ty most part ≡ is_live ty b t part
+low_live ty b most t part e = ?
+
+module _ (g : GroveContent) (types : AreTypes g.pool.types) (e : EdgeStep) (c t : Plain) where
+  abbrev ty : Types
+  ty = g.pool.types
+
+  abbrev whole : Plain
+  whole = graft e.kind.0 e.p.entries c t
+
+  module _ (typed : HasTypes ty whole) (bounded : IsBounded whole) (b : ℕ) (ample : b ≤ unsigned_abs ty.units.den * most_shift) (is : e.most ≡ low ty whole +ℤ pos b) where
+    pub inside_fits : (xs ys : List (OpenKey × ℕ)) → AreOpenLines g xs → IsLiveTable ty most_shift b c (opened_terms_in g xs) → AreOpenLines g ys →
+        IsLiveTable ty most_shift b t (opened_terms_in g ys) → AreInsideFit g e xs ys
+    inside_fits xs ys i h j k =
+        let of_xs = all_meant (opened_in g) (IsOpenOf ty c) xs (open_lines ty b c (opened_terms_in g xs) h (open_above g xs i)) in
+        let of_ys = all_meant (opened_in g) (IsOpenOf ty t) ys (open_lines ty b t (opened_terms_in g ys) k (open_above g ys j)) in
+        all_more (λ x. IsOpenOf ty c (opened_in g x.0)) _ xs
+        (λ x p. all_more (λ y. IsOpenOf ty t (opened_in g y.0)) _ ys
+        (λ y q. open_fit ty types whole typed bounded b e.most (inside e.kind.0 e.p.entries (opened_in g x.0) (opened_in g y.0)) ample is
+        (inside_of ty e.kind.0 e.p.entries c t (opened_in g x.0) (opened_in g y.0) p q)) of_ys) of_xs
+
+    pub outside_fits : (s : List ℕ) (m : ℕ) → m ≤ most_shift → IsBelow s (limits (each_direction ty.dims m) e.p.entries) → (xs : List (ExtractKey × ℕ)) (ys : List (OpenKey × ℕ)) →
+        AreExtractLines g xs → AreSameExtracted (extracted_terms_in g xs) (closed_terms ty (tables_within ty most_shift c)) → AreOpenLines g ys →
+        IsLiveTable ty most_shift b t (opened_terms_in g ys) → AreOutsideFit g e s xs ys
+    outside_fits s m most below xs ys i h j k =
+        let of_xs = all_meant (extracted_in g) (IsClosedOf ty c) xs (closed_lines ty c (extracted_terms_in g xs) h (extract_above g xs i)) in
+        let of_ys = all_meant (opened_in g) (IsOpenOf ty t) ys (open_lines ty b t (opened_terms_in g ys) k (open_above g ys j)) in
+        let shift = more_shifts ty.dims m most_shift s e.p.entries most below in
+        all_more (λ x. IsClosedOf ty c (extracted_in g x.0)) _ xs
+        (λ x p. all_more (λ y. IsOpenOf ty t (opened_in g y.0)) _ ys
+        (λ y q. open_fit ty types whole typed bounded b e.most (outside s e.kind.0 e.p.entries (extracted_in g x.0) (opened_in g y.0)) ample is
+        (outside_of ty s e.kind.0 e.p.entries c t (extracted_in g x.0) (opened_in g y.0) shift p q)) of_ys) of_xs
+
+    -- the shifts of the code
+    pub shift_fits : (m : ℕ) → m ≤ most_shift → (ss : List Multi) → map (λ s. s.entries) ss ≡ shifts (each_direction ty.dims m) e.p.entries →
+        (xs : List (ExtractKey × ℕ)) (ys : List (OpenKey × ℕ)) →
+        AreExtractLines g xs → AreSameExtracted (extracted_terms_in g xs) (closed_terms ty (tables_within ty most_shift c)) → AreOpenLines g ys →
+        IsLiveTable ty most_shift b t (opened_terms_in g ys) → AllByRecursion (λ s. AreOutsideFit g e s.entries xs ys) ss
+    shift_fits m most ss same xs ys i h j k =
+        all_unmapped (λ s. AreOutsideFit g e s xs ys) (λ (s : Multi). s.entries) ss
+        (subst (AllByRecursion (λ s. AreOutsideFit g e s xs ys)) (sym same)
+        (all_more (λ s. IsBelow s (limits (each_direction ty.dims m) e.p.entries)) (λ s. AreOutsideFit g e s xs ys) (shifts (each_direction ty.dims m) e.p.entries)
+        (λ s below. outside_fits s m most below xs ys i h j k) (below_is (limits (each_direction ty.dims m) e.p.entries))))
+
+  pub beside_fits : HasTypes ty whole → IsBounded whole → (xs ys : List (ExtractKey × ℕ)) → AreExtractLines g xs →
+      AreSameExtracted (extracted_terms_in g xs) (closed_terms ty (tables_within ty most_shift c)) → AreExtractLines g ys →
+      AreSameExtracted (extracted_terms_in g ys) (tables_within ty most_shift t).idle → AreBesideFit g e xs ys
+  beside_fits typed bounded xs ys i h j k =
+      let of_xs = all_meant (extracted_in g) (IsClosedOf ty c) xs (closed_lines ty c (extracted_terms_in g xs) h (extract_above g xs i)) in
+      let of_ys = all_meant (extracted_in g) (IsIdleOf ty t) ys (idle_lines ty t (extracted_terms_in g ys) k (extract_above g ys j)) in
+      all_more (λ x. IsClosedOf ty c (extracted_in g x.0)) _ xs
+      (λ x p. all_more (λ y. IsIdleOf ty t (extracted_in g y.0)) _ ys
+      (λ y q. let z = beside_of ty e.kind.0 e.p.entries c t (extracted_in g x.0) (extracted_in g y.0) p q in
+        subst (CanHold ty) z.2 (idle_fit ty types whole typed bounded z.0 z.1)) of_ys) of_xs
+
+pub small_shifts : (d m : ℕ) (p : List ℕ) (ss : List Multi) → length p ≡ 5 → m ≤ most_shift → map (λ s. s.entries) ss ≡ shifts (each_direction d m) p →
+    AllByRecursion (λ s. sum s.entries ≤ 8192) ss
+small_shifts d m p ss five most same =
+    all_unmapped (λ (s : List ℕ). sum s ≤ 8192) (λ (s : Multi). s.entries) ss
+    (subst (AllByRecursion (λ s. sum s ≤ 8192)) (sym same)
+    (all_more (λ s. IsBelow s (limits (each_direction d m) p)) (λ s. sum s ≤ 8192) (shifts (each_direction d m) p)
+    (λ s below. let total = shift_sum d m s p below in let e : length p * m ≡ 5 * m = ap (λ (n : ℕ). n * m) five in omega (arith, total, e, most))
+    (below_is (limits (each_direction d m) p))))
