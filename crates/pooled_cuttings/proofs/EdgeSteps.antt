@@ -1,10 +1,10 @@
 -- One more edge: lines with the sums of the tables of two trees may be put together.
-use Rattle.std.proofs.Common.{◌≡◌, ℕ, suc, ◌+◌, ◌*◌, ◌<◌, ◌≤◌, ℤ, pos, ◌+ℤ◌, Bool, true, false, not, List, [], ◌∷◌, ◌++◌, map, flat_map, filter, length, sum, refl, sym, ap, ◌∙◌, arith, subst, unsigned_abs}
+use Rattle.std.proofs.Common.{◌≡◌, ℕ, suc, ◌+◌, ◌*◌, ◌<◌, ◌≤◌, ℤ, pos, ◌+ℤ◌, Bool, true, false, cond, not, List, [], ◌∷◌, ◌++◌, map, flat_map, filter, length, sum, refl, sym, ap, ◌∙◌, arith, subst, unsigned_abs}
 use Rattle.std.specs.List.{AllByRecursion}
 use Rattle.std.proofs.lemmas.Int.{ints}
 use Rattle.std.specs.Ordering.{int_cmp, is_gt}
-use Rattle.exact_sums.specs.Saturating.{overflow}
-use Rattle.exact_sums.specs.Keyed.{rekeyed, same_by}
+use Rattle.exact_sums.specs.Saturating.{overflow, saturated}
+use Rattle.exact_sums.specs.Keyed.{rekeyed, same_by, sum_at}
 use Rattle.degree_numbers.specs.declared.types.Types.{Types}
 use Rattle.degree_numbers.specs.declared.multi.Multi.{Multi}
 use Rattle.degree_numbers.specs.Types.{AreTypes}
@@ -17,16 +17,21 @@ use Rattle.cutting_sizes.specs.Bounds.{IsBounded, most_shift}
 use Rattle.cutting_sizes.specs.Lows.{low}
 use Rattle.cutting_sizes.proofs.Made.{IsBelow, below_is}
 use Rattle.cutting_tables.specs.Keys.{Opened, inside, outside, beside, opened_order}
-use Rattle.cutting_tables.specs.Tables.{closed_terms}
+use Rattle.cutting_tables.specs.Tables.{closed_terms, idle_branch, touched_branch}
 use Rattle.cutting_tables.specs.Live.{AreSameOpened, AreSameExtracted, is_live, live_terms, tables_within, IsLiveTable}
-use Rattle.cutting_tables.proofs.Closing.{touched_step_types}
-use Rattle.cutting_tables.proofs.Sums.{same_trans}
+use Rattle.cutting_tables.proofs.Closing.{touched_step_types, idle_step}
+use Rattle.cutting_tables.proofs.Steps.{is_live-live, is_live-dead}
+use Rattle.pooled_cuttings.proofs.Degrees.{true_low, not_low}
 use Rattle.pooled_cuttings.specs.declared.keys.OpenKey.{OpenKey}
 use Rattle.pooled_cuttings.specs.declared.keys.ExtractKey.{ExtractKey}
 use Rattle.pooled_cuttings.specs.declared.steps.EdgeStep.{EdgeStep}
-use Rattle.pooled_cuttings.specs.Groves.{GroveContent}
+use Rattle.pooled_cuttings.specs.Groves.{GroveContent, IsGrove, IsGrownGrove}
+use Rattle.pooled_cuttings.specs.declared.tables.TableBounds.{TableBounds}
+use Rattle.pooled_cuttings.specs.declared.tables.NodeTables.{NodeTables}
+use Rattle.pooled_cuttings.specs.NodeTables.{AreTables, IsTableBounds}
+use Rattle.pooled_cuttings.proofs.Means.{tables_grown, extract_lines_grown, extract_terms_grown}
 use Rattle.pooled_cuttings.specs.Lines.{opened_in, extracted_in, opened_terms_in, extracted_terms_in, AreOpenLines, AreExtractLines, IsOpenLine, IsExtractLine}
-use Rattle.pooled_cuttings.specs.Products.{is_low, low_terms, touched_products, CanHold, AreInsideFit, AreOutsideFit, AreBesideFit}
+use Rattle.pooled_cuttings.specs.Products.{is_low, low_terms, touched_products, CanHold, IsEdgeStep, AreInsideFit, AreOutsideFit, AreBesideFit}
 use Rattle.pooled_cuttings.proofs.Members.{all_more, all_unmapped}
 use Rattle.pooled_cuttings.proofs.Fitting.{IsOpenOf, IsIdleOf, IsClosedOf, open_lines, idle_lines, closed_lines, open_fit, idle_fit, inside_of, outside_of, beside_of, more_shifts, shift_sum}
 
@@ -45,7 +50,18 @@ extract_above g (l ∷ ls) a = (a.0.1, extract_above g ls a.1)
 
 -- low parts are live ones
 low_live : (ty : Types) (b : ℕ) (most : ℤ) (t part : Plain) → most ≡ low ty t +ℤ pos b → is_low ty most part ≡ is_live ty b t part
-low_live ty b most t part e = ?
+low_live ty b most t part e =
+    let d = (degree_of ty part).a in
+    (elim (is_low ty most part) as (λ x. is_low ty most part ≡ x → x ≡ is_live ty b t part) [
+      | true ↦ λ h. let l = true_low d most h in sym (is_live-live ty b t part (omega (arith, ints, l, e)))
+      | false ↦ λ h. let l = not_low d most h in sym (is_live-dead ty b t part (omega (arith, ints, l, e)))
+    ]) refl
+
+low_terms_live : (ty : Types) (b : ℕ) (most : ℤ) (t : Plain) → most ≡ low ty t +ℤ pos b → (xs : List (Opened × ℕ)) → low_terms ty most xs ≡ live_terms ty b t xs
+low_terms_live ty b most t e [] = refl
+low_terms_live ty b most t e (x ∷ xs) =
+    ap (λ (d : Bool). cond d (x ∷ low_terms ty most xs) (low_terms ty most xs)) (low_live ty b most t x.0.part e)
+    ∙ ap (λ (ys : List (Opened × ℕ)). cond (is_live ty b t x.0.part) (x ∷ ys) ys) (low_terms_live ty b most t e xs)
 
 module _ (g : GroveContent) (types : AreTypes g.pool.types) (e : EdgeStep) (c t : Plain) where
   abbrev ty : Types
@@ -107,3 +123,71 @@ small_shifts d m p ss five most same =
     (all_more (λ s. IsBelow s (limits (each_direction d m) p)) (λ s. sum s ≤ 8192) (shifts (each_direction d m) p)
     (λ s below. let total = shift_sum d m s p below in let e : length p * m ≡ 5 * m = ap (λ (n : ℕ). n * m) five in omega (arith, total, e, most))
     (below_is (limits (each_direction d m) p))))
+
+-- the parts of a tree with one more edge, as lines
+pub record AreParts (g : GroveContent) (b : TableBounds) (e : EdgeStep) (c t : Plain) (above others : NodeTables) (closed : List (ExtractKey × ℕ)) : Type 0 where
+  pub types : AreTypes g.pool.types
+  pub typed : HasTypes g.pool.types (graft e.kind.0 e.p.entries c t)
+  pub bounded : IsBounded (graft e.kind.0 e.p.entries c t)
+  pub bounds : IsTableBounds g.pool.types b
+  pub most : e.most ≡ low g.pool.types (graft e.kind.0 e.p.entries c t) +ℤ pos b.excess
+  pub above : AreTables g b c above
+  pub closed_lines : AreExtractLines g closed
+  pub closed : AreSameExtracted (extracted_terms_in g closed) (closed_terms g.pool.types (tables_within g.pool.types most_shift c))
+  pub others : AreTables g b t others
+
+pub parts_grown : (g h : GroveContent) (b : TableBounds) (e : EdgeStep) (c t : Plain) (above others : NodeTables) (closed : List (ExtractKey × ℕ)) →
+    IsGrove g → IsGrownGrove g h → AreParts g b e c t above others closed → AreParts h b e c t above others closed
+parts_grown g h b e c t above others closed is a p =
+    let ty = a.pool.types in
+    record {
+      types = rw ty p.types;
+      typed = rw ty p.typed;
+      bounded = p.bounded;
+      bounds = rw ty p.bounds;
+      most = rw ty p.most;
+      above = tables_grown g h b c above is a p.above;
+      closed_lines = extract_lines_grown g h closed a p.closed_lines;
+      closed = rw (extract_terms_grown g h closed is a p.closed_lines, ty) p.closed;
+      others = tables_grown g h b t others is a p.others;
+    }
+
+module _ (g : GroveContent) (b : TableBounds) (e : EdgeStep) (c t : Plain) (above others : NodeTables) (closed : List (ExtractKey × ℕ)) (p : AreParts g b e c t above others closed) where
+  pub parts_step : IsEdgeStep g.pool.types e
+  parts_step =
+      let d = p.bounded.derivatives in
+      record { known = p.typed.0.known; small = omega (arith, d) }
+
+  pub parts_beside : AreBesideFit g e closed others.idle.items
+  parts_beside = beside_fits g p.types e c t p.typed p.bounded closed others.idle.items p.closed_lines p.closed p.others.idle_lines p.others.idle
+
+  pub parts_inside : AreInsideFit g e above.touched.items others.touched.items
+  parts_inside =
+      inside_fits g p.types e c t p.typed p.bounded b.excess p.bounds.excess p.most above.touched.items others.touched.items
+      p.above.touched_lines p.above.touched p.others.touched_lines p.others.touched
+
+  pub parts_outside : (ss : List Multi) → map (λ s. s.entries) ss ≡ shifts (each_direction g.pool.types.dims b.shift) e.p.entries →
+      AllByRecursion (λ s. AreOutsideFit g e s.entries closed others.touched.items) ss
+  parts_outside ss same =
+      shift_fits g p.types e c t p.typed p.bounded b.excess p.bounds.excess p.most b.shift p.bounds.shift ss same closed others.touched.items
+      p.closed_lines p.closed p.others.touched_lines p.others.touched
+
+  -- what comes out
+  pub idle_table : (new : List (Extracted × ℕ)) →
+      AreSameExtracted new (idle_branch e.kind.0 e.p.entries (extracted_terms_in g closed) (extracted_terms_in g others.idle.items)) →
+      AreSameExtracted new (tables_within g.pool.types most_shift (graft e.kind.0 e.p.entries c t)).idle
+  idle_table new h = λ key.
+      h key
+      ∙ idle_step g.pool.types most_shift e.kind.0 e.p.entries c t (extracted_terms_in g closed) (extracted_terms_in g others.idle.items) p.closed p.others.idle key
+
+  pub touched_table : (new : List (Opened × ℕ)) →
+      AreSameOpened new
+      (low_terms g.pool.types e.most
+      (touched_branch (each_direction g.pool.types.dims b.shift) e.kind.0 e.p.entries (opened_terms_in g above.touched.items) (extracted_terms_in g closed) (opened_terms_in g others.touched.items))) →
+      IsLiveTable g.pool.types most_shift b.excess (graft e.kind.0 e.p.entries c t) new
+  touched_table new h = λ key.
+      let made = touched_branch (each_direction g.pool.types.dims b.shift) e.kind.0 e.p.entries (opened_terms_in g above.touched.items) (extracted_terms_in g closed) (opened_terms_in g others.touched.items) in
+      h key
+      ∙ ap (λ (ts : List (Opened × ℕ)). saturated (sum_at (same_by opened_order) key ts)) (low_terms_live g.pool.types b.excess e.most (graft e.kind.0 e.p.entries c t) p.most made)
+      ∙ touched_step_types g.pool.types most_shift b.shift b.excess e.kind.0 e.p.entries c t (opened_terms_in g above.touched.items) (opened_terms_in g others.touched.items) (extracted_terms_in g closed)
+      p.types p.bounds.shift p.bounds.ample p.above.touched p.closed p.others.touched key
