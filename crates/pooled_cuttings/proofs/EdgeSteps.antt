@@ -1,5 +1,5 @@
 -- One more edge: lines with the sums of the tables of two trees may be put together.
-use Rattle.std.proofs.Common.{◌≡◌, ℕ, suc, ◌+◌, ◌*◌, ◌<◌, ◌≤◌, ℤ, pos, ◌+ℤ◌, Bool, true, false, cond, not, List, [], ◌∷◌, ◌++◌, map, flat_map, filter, length, sum, refl, sym, ap, ◌∙◌, arith, subst, unsigned_abs}
+use Rattle.std.proofs.Common.{◌≡◌, ℕ, suc, ◌+◌, ◌*◌, ◌<◌, ◌≤◌, ℤ, pos, neg_ℤ, ◌+ℤ◌, ◌≤ℤ◌, Bool, true, false, cond, not, List, [], ◌∷◌, ◌++◌, map, flat_map, filter, length, sum, refl, sym, ap, ◌∙◌, arith, subst, unsigned_abs}
 use Rattle.std.specs.List.{AllByRecursion}
 use Rattle.std.proofs.lemmas.Int.{ints}
 use Rattle.std.specs.Ordering.{int_cmp, is_gt}
@@ -9,17 +9,22 @@ use Rattle.degree_numbers.specs.declared.types.Types.{Types}
 use Rattle.degree_numbers.specs.declared.multi.Multi.{Multi}
 use Rattle.degree_numbers.specs.Types.{AreTypes}
 use Rattle.degree_numbers.specs.Multi.{IsMultiIndex}
+use Rattle.degree_numbers.specs.declared.types.TypeId.{TypeId}
+use Rattle.tree_pool.specs.Content.{tree_at, tree_over}
+use Rattle.tree_pool.specs.declared.node.EdgeTo.{EdgeTo}
+use Rattle.cutting_tables.specs.declared.lows.Lows.{Lows}
+use Rattle.cutting_tables.specs.PoolLows.{AreLows}
 use Rattle.plain_trees.specs.Plain.{Plain, graft}
 use Rattle.plain_trees.specs.Degree.{HasTypes, degree_of}
 use Rattle.plain_trees.specs.Cutting.{limits, shifts}
 use Rattle.plain_trees.specs.Coproducts.{Extracted, each_direction, extracted_order}
 use Rattle.cutting_sizes.specs.Bounds.{IsBounded, most_shift}
-use Rattle.cutting_sizes.specs.Lows.{low}
+use Rattle.cutting_sizes.specs.Lows.{low, lowest}
 use Rattle.cutting_sizes.proofs.Made.{IsBelow, below_is}
-use Rattle.cutting_tables.specs.Keys.{Opened, inside, outside, beside, opened_order}
+use Rattle.cutting_tables.specs.Keys.{Opened, inside, outside, beside, closes, closing, opened_order}
 use Rattle.cutting_tables.specs.Tables.{closed_terms, idle_branch, touched_branch}
 use Rattle.cutting_tables.specs.Live.{AreSameOpened, AreSameExtracted, is_live, live_terms, tables_within, IsLiveTable}
-use Rattle.cutting_tables.proofs.Closing.{touched_step_types, idle_step}
+use Rattle.cutting_tables.proofs.Closing.{touched_step_types, idle_step, closed_step}
 use Rattle.cutting_tables.proofs.Steps.{is_live-live, is_live-dead}
 use Rattle.pooled_cuttings.proofs.Degrees.{true_low, not_low}
 use Rattle.pooled_cuttings.specs.declared.keys.OpenKey.{OpenKey}
@@ -28,7 +33,7 @@ use Rattle.pooled_cuttings.specs.declared.steps.EdgeStep.{EdgeStep}
 use Rattle.pooled_cuttings.specs.Groves.{GroveContent, IsGrove, IsGrownGrove}
 use Rattle.pooled_cuttings.specs.declared.tables.TableBounds.{TableBounds}
 use Rattle.pooled_cuttings.specs.declared.tables.NodeTables.{NodeTables}
-use Rattle.pooled_cuttings.specs.NodeTables.{AreTables, IsTableBounds}
+use Rattle.pooled_cuttings.specs.NodeTables.{AreTables, IsTableBounds, IsOneMore}
 use Rattle.pooled_cuttings.proofs.Means.{tables_grown, extract_lines_grown, extract_terms_grown}
 use Rattle.pooled_cuttings.specs.Lines.{opened_in, extracted_in, opened_terms_in, extracted_terms_in, AreOpenLines, AreExtractLines, IsOpenLine, IsExtractLine}
 use Rattle.pooled_cuttings.specs.Products.{is_low, low_terms, touched_products, CanHold, IsEdgeStep, AreInsideFit, AreOutsideFit, AreBesideFit}
@@ -191,3 +196,69 @@ module _ (g : GroveContent) (b : TableBounds) (e : EdgeStep) (c t : Plain) (abov
       ∙ ap (λ (ts : List (Opened × ℕ)). saturated (sum_at (same_by opened_order) key ts)) (low_terms_live g.pool.types b.excess e.most (graft e.kind.0 e.p.entries c t) p.most made)
       ∙ touched_step_types g.pool.types most_shift b.shift b.excess e.kind.0 e.p.entries c t (opened_terms_in g above.touched.items) (opened_terms_in g others.touched.items) (extracted_terms_in g closed)
       p.types p.bounds.shift p.bounds.ample p.above.touched p.closed p.others.touched key
+
+abbrev step_of : TypeId → Multi → ℤ → EdgeStep
+step_of k p m = record { kind = k; p = p; most = m }
+
+step_is : (e : EdgeStep) (k : TypeId) (p : Multi) (m : ℤ) → e.kind ≡ k → e.p ≡ p → e.most ≡ m → e ≡ step_of k p m
+step_is e k p m a b c = ap (λ (x : TypeId). step_of x e.p e.most) a ∙ ap (λ (x : Multi). step_of k x e.most) b ∙ ap (step_of k p) c
+
+module _ (g : GroveContent) (b : TableBounds) (edge : EdgeTo) (n : Multi) (rest : List EdgeTo) (above others : NodeTables) (closed : List (ExtractKey × ℕ)) (lows : Lows) (e : EdgeStep)
+    (kind : e.kind ≡ edge.kind) (p : e.p ≡ edge.p) (most : e.most ≡ lows.low +ℤ pos b.excess) where
+  abbrev child : Plain
+  child = tree_at g.pool edge.child.0
+
+  abbrev stump : Plain
+  stump = tree_over g.pool.trees n.entries rest
+
+  pub parts_of : IsGrove g → IsTableBounds g.pool.types b → IsOneMore g.pool edge n rest → AreTables g b child above → AreExtractLines g closed →
+      AreSameExtracted (extracted_terms_in g closed) (closed_terms g.pool.types (tables_within g.pool.types most_shift child)) → AreTables g b stump others →
+      AreLows g.pool.types (graft edge.kind.0 edge.p.entries child stump) lows → AreParts g b e child stump above others closed
+  parts_of is bounds one a ls cl o l =
+      subst (λ (s : EdgeStep). AreParts g b s child stump above others closed) (sym (step_is e edge.kind edge.p (lows.low +ℤ pos b.excess) kind p most))
+      (record {
+        types = is.pooled.types;
+        typed = one.types;
+        bounded = one.bounded;
+        bounds = bounds;
+        most = ap (λ (z : ℤ). z +ℤ pos b.excess) l.low;
+        above = a;
+        closed_lines = ls;
+        closed = cl;
+        others = o;
+      })
+
+  pub back : (h : GroveContent) (x : NodeTables) → AreTables h b (graft e.kind.0 e.p.entries child stump) x → AreTables h b (graft edge.kind.0 edge.p.entries child stump) x
+  back h x t =
+      subst (λ (s : EdgeStep). AreTables h b (graft s.kind.0 s.p.entries child stump) x) (step_is e edge.kind edge.p (lows.low +ℤ pos b.excess) kind p most) t
+
+pub made_tables : (g h k : GroveContent) (b : TableBounds) (e : EdgeStep) (c t : Plain) (above others : NodeTables) (closed : List (ExtractKey × ℕ)) (lows : Lows) (x : NodeTables) →
+    IsGrove g → IsGrove h → IsGrownGrove g h → IsGrownGrove h k → AreParts g b e c t above others closed → x.lows ≡ lows → AreLows g.pool.types (graft e.kind.0 e.p.entries c t) lows →
+    AreExtractLines h x.idle.items →
+    AreSameExtracted (extracted_terms_in h x.idle.items) (idle_branch e.kind.0 e.p.entries (extracted_terms_in g closed) (extracted_terms_in g others.idle.items)) →
+    AreOpenLines k x.touched.items →
+    AreSameOpened (opened_terms_in k x.touched.items)
+    (low_terms h.pool.types e.most
+    (touched_branch (each_direction h.pool.types.dims b.shift) e.kind.0 e.p.entries (opened_terms_in h above.touched.items) (extracted_terms_in h closed) (opened_terms_in h others.touched.items))) →
+    AreTables k b (graft e.kind.0 e.p.entries c t) x
+made_tables g h k b e c t above others closed lows x is ish a d p same l il i tl s =
+    let q = parts_grown g h b e c t above others closed is a p in
+    let whole = graft e.kind.0 e.p.entries c t in
+    let ty : k.pool.types ≡ g.pool.types = d.pool.types ∙ a.pool.types in
+    record {
+      lows = rw (ty, same) l;
+      idle_lines = extract_lines_grown h k x.idle.items d il;
+      idle = rw (ty, extract_terms_grown h k x.idle.items ish d il) (idle_table g b e c t above others closed p (extracted_terms_in h x.idle.items) i);
+      touched_lines = tl;
+      touched = rw d.pool.types (touched_table h b e c t above others closed q (opened_terms_in k x.touched.items) s);
+    }
+
+-- closed lines
+pub closed_table : (ty : Types) (b : ℕ) (t : Plain) (new old start idle : List (Extracted × ℕ)) (touched : List (Opened × ℕ)) → AreSameExtracted new old → start ≡ idle →
+    old ≡ start ++ rekeyed closing (filter (λ e. closes ty e.0) touched) → neg_ℤ (pos b) ≤ℤ lowest ty t → AreSameExtracted idle (tables_within ty most_shift t).idle →
+    IsLiveTable ty most_shift b t touched → AreSameExtracted new (closed_terms ty (tables_within ty most_shift t))
+closed_table ty b t new old start idle touched h first e enough i l = λ key.
+    h key
+    ∙ ap (λ (ts : List (Extracted × ℕ)). saturated (sum_at (same_by extracted_order) key ts))
+    (e ∙ ap (λ (ts : List (Extracted × ℕ)). ts ++ rekeyed closing (filter (λ e. closes ty e.0) touched)) first)
+    ∙ closed_step ty most_shift b t enough idle touched i l key

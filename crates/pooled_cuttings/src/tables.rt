@@ -96,14 +96,19 @@ fn lows_over(grove: &Grove<'_>, edge: &EdgeTo, above: &Lows, others: &Lows) -> L
     others.with_edge(grove.pool().types(), edge.kind, &edge.p, above)
 }
 
-/// The greatest standard part of the degree of a component that is followed, in a tree with these
-/// lows.
-fn greatest_part(bounds: &TableBounds, lows: &Lows) -> i64
+/// The step over an edge, in a tree with these lows.
+fn step_over(bounds: &TableBounds, edge: &EdgeTo, lows: &Lows) -> EdgeStep
     requires within { AreWithin lows.now }
     requires excess { bounds.now.excess ≤ 1120000000 }
-    ensures { result ≡ lows.now.low +ℤ pos bounds.now.excess }
+    ensures kind { result.kind ≡ edge.now.kind }
+    ensures p { result.p ≡ edge.now.p }
+    ensures most { result.most ≡ lows.now.low +ℤ pos bounds.now.excess }
 {
-    lows.low + bounds.excess as i64
+    EdgeStep {
+        kind: edge.kind,
+        p: edge.p,
+        most: lows.low + bounds.excess as i64,
+    }
 }
 
 /// The tables of the tree with root decoration `n` and the edges `edge` and then `rest`, from those
@@ -136,11 +141,7 @@ pub fn with_edge(
 {
     grove.laws();
     let lows = lows_over(grove, edge, &above.lows, &others.lows);
-    let step = EdgeStep {
-        kind: edge.kind,
-        p: edge.p,
-        most: greatest_part(bounds, &lows),
-    };
+    let step = step_over(bounds, edge, &lows);
     let idle = idle_lines(grove, alloc, &step, closed, others.idle.as_slice())?;
     grove.laws();
     let touched = touched_over(
