@@ -136,10 +136,10 @@ pub record AreParts (g : GroveContent) (b : TableBounds) (e : EdgeStep) (c t : P
   pub bounded : IsBounded (graft e.kind.0 e.p.entries c t)
   pub bounds : IsTableBounds g.pool.types b
   pub most : e.most ≡ low g.pool.types (graft e.kind.0 e.p.entries c t) +ℤ pos b.excess
-  pub above : AreTables g b c above
+  pub of_child : AreTables g b c above
   pub closed_lines : AreExtractLines g closed
-  pub closed : AreSameExtracted (extracted_terms_in g closed) (closed_terms g.pool.types (tables_within g.pool.types most_shift c))
-  pub others : AreTables g b t others
+  pub closed_sums : AreSameExtracted (extracted_terms_in g closed) (closed_terms g.pool.types (tables_within g.pool.types most_shift c))
+  pub of_rest : AreTables g b t others
 
 pub parts_grown : (g h : GroveContent) (b : TableBounds) (e : EdgeStep) (c t : Plain) (above others : NodeTables) (closed : List (ExtractKey × ℕ)) →
     IsGrove g → IsGrownGrove g h → AreParts g b e c t above others closed → AreParts h b e c t above others closed
@@ -151,10 +151,10 @@ parts_grown g h b e c t above others closed is a p =
       bounded = p.bounded;
       bounds = rw ty p.bounds;
       most = rw ty p.most;
-      above = tables_grown g h b c above is a p.above;
+      of_child = tables_grown g h b c above is a p.of_child;
       closed_lines = extract_lines_grown g h closed a p.closed_lines;
-      closed = rw (extract_terms_grown g h closed is a p.closed_lines, ty) p.closed;
-      others = tables_grown g h b t others is a p.others;
+      closed_sums = rw (extract_terms_grown g h closed is a p.closed_lines, ty) p.closed_sums;
+      of_rest = tables_grown g h b t others is a p.of_rest;
     }
 
 module _ (g : GroveContent) (b : TableBounds) (e : EdgeStep) (c t : Plain) (above others : NodeTables) (closed : List (ExtractKey × ℕ)) (p : AreParts g b e c t above others closed) where
@@ -164,18 +164,18 @@ module _ (g : GroveContent) (b : TableBounds) (e : EdgeStep) (c t : Plain) (abov
       record { known = p.typed.0.known; small = omega (arith, d) }
 
   pub parts_beside : AreBesideFit g e closed others.idle.items
-  parts_beside = beside_fits g p.types e c t p.typed p.bounded closed others.idle.items p.closed_lines p.closed p.others.idle_lines p.others.idle
+  parts_beside = beside_fits g p.types e c t p.typed p.bounded closed others.idle.items p.closed_lines p.closed_sums p.of_rest.idle_lines p.of_rest.idle
 
   pub parts_inside : AreInsideFit g e above.touched.items others.touched.items
   parts_inside =
       inside_fits g p.types e c t p.typed p.bounded b.excess p.bounds.excess p.most above.touched.items others.touched.items
-      p.above.touched_lines p.above.touched p.others.touched_lines p.others.touched
+      p.of_child.touched_lines p.of_child.touched p.of_rest.touched_lines p.of_rest.touched
 
   pub parts_outside : (ss : List Multi) → map (λ s. s.entries) ss ≡ shifts (each_direction g.pool.types.dims b.shift) e.p.entries →
       AllByRecursion (λ s. AreOutsideFit g e s.entries closed others.touched.items) ss
   parts_outside ss same =
       shift_fits g p.types e c t p.typed p.bounded b.excess p.bounds.excess p.most b.shift p.bounds.shift ss same closed others.touched.items
-      p.closed_lines p.closed p.others.touched_lines p.others.touched
+      p.closed_lines p.closed_sums p.of_rest.touched_lines p.of_rest.touched
 
   -- what comes out
   pub idle_table : (new : List (Extracted × ℕ)) →
@@ -183,7 +183,7 @@ module _ (g : GroveContent) (b : TableBounds) (e : EdgeStep) (c t : Plain) (abov
       AreSameExtracted new (tables_within g.pool.types most_shift (graft e.kind.0 e.p.entries c t)).idle
   idle_table new h = λ key.
       h key
-      ∙ idle_step g.pool.types most_shift e.kind.0 e.p.entries c t (extracted_terms_in g closed) (extracted_terms_in g others.idle.items) p.closed p.others.idle key
+      ∙ idle_step g.pool.types most_shift e.kind.0 e.p.entries c t (extracted_terms_in g closed) (extracted_terms_in g others.idle.items) p.closed_sums p.of_rest.idle key
 
   pub touched_table : (new : List (Opened × ℕ)) →
       AreSameOpened new
@@ -195,7 +195,7 @@ module _ (g : GroveContent) (b : TableBounds) (e : EdgeStep) (c t : Plain) (abov
       h key
       ∙ ap (λ (ts : List (Opened × ℕ)). saturated (sum_at (same_by opened_order) key ts)) (low_terms_live g.pool.types b.excess e.most (graft e.kind.0 e.p.entries c t) p.most made)
       ∙ touched_step_types g.pool.types most_shift b.shift b.excess e.kind.0 e.p.entries c t (opened_terms_in g above.touched.items) (opened_terms_in g others.touched.items) (extracted_terms_in g closed)
-      p.types p.bounds.shift p.bounds.ample p.above.touched p.closed p.others.touched key
+      p.types p.bounds.shift p.bounds.ample p.of_child.touched p.closed_sums p.of_rest.touched key
 
 abbrev step_of : TypeId → Multi → ℤ → EdgeStep
 step_of k p m = record { kind = k; p = p; most = m }
@@ -222,10 +222,10 @@ module _ (g : GroveContent) (b : TableBounds) (edge : EdgeTo) (n : Multi) (rest 
         bounded = one.bounded;
         bounds = bounds;
         most = ap (λ (z : ℤ). z +ℤ pos b.excess) l.low;
-        above = a;
+        of_child = a;
         closed_lines = ls;
-        closed = cl;
-        others = o;
+        closed_sums = cl;
+        of_rest = o;
       })
 
   pub back : (h : GroveContent) (x : NodeTables) → AreTables h b (graft e.kind.0 e.p.entries child stump) x → AreTables h b (graft edge.kind.0 edge.p.entries child stump) x

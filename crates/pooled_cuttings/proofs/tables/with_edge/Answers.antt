@@ -78,7 +78,7 @@ touched_over-requires-clause-above c =
     c.step_over-step.ensures.kind c.step_over-step.ensures.p c.step_over-step.ensures.most c.laws.ensures c.requires.bounds c.requires.tree c.requires.above c.requires.lines c.requires.closed c.requires.others lows in
     let h = c.idle_lines.new.grove in
     let there = parts_grown g h b e child stump c.args.above.now c.args.others.now c.args.closed.now c.laws.ensures c.in_ok-idle.ensures.grown parts in
-    rw c.as_slice-2.ensures.value there.above.touched_lines
+    rw c.as_slice-2.ensures.value there.of_child.touched_lines
 
 pub touched_over-requires-clause-closed : goal.touched_over-requires-clause-closed
 touched_over-requires-clause-closed c =
@@ -108,7 +108,7 @@ touched_over-requires-clause-touched c =
     c.step_over-step.ensures.kind c.step_over-step.ensures.p c.step_over-step.ensures.most c.laws.ensures c.requires.bounds c.requires.tree c.requires.above c.requires.lines c.requires.closed c.requires.others lows in
     let h = c.idle_lines.new.grove in
     let there = parts_grown g h b e child stump c.args.above.now c.args.others.now c.args.closed.now c.laws.ensures c.in_ok-idle.ensures.grown parts in
-    rw c.as_slice-3.ensures.value there.others.touched_lines
+    rw c.as_slice-3.ensures.value there.of_rest.touched_lines
 
 pub touched_over-requires-clause-inside : goal.touched_over-requires-clause-inside
 touched_over-requires-clause-inside c =
@@ -151,7 +151,15 @@ returns-clause-tables c =
     let e = c.step_over-step.result in
     let parts = parts_of g b edge c.args.n.now c.args.rest.now c.args.above.now c.args.others.now c.args.closed.now c.lows_over-lows.result e
     c.step_over-step.ensures.kind c.step_over-step.ensures.p c.step_over-step.ensures.most c.laws.ensures c.requires.bounds c.requires.tree c.requires.above c.requires.lines c.requires.closed c.requires.others lows in
-    ?
+    let h = c.idle_lines.new.grove in
+    let k = c.touched_over.new.grove in
+    let x = record { lows = c.lows_over-lows.result; idle = c.in_ok-idle.idle; touched = c.in_ok-touched.touched } in
+    let idle = rw c.as_slice.ensures.value at c.in_ok-idle.ensures.sums in
+    let touched = rw (c.as_slice-2.ensures.value, c.as_slice-3.ensures.value) at c.in_ok-touched.ensures.sums in
+    back g b edge c.args.n.now c.args.rest.now c.args.above.now c.args.others.now c.args.closed.now c.lows_over-lows.result e
+    c.step_over-step.ensures.kind c.step_over-step.ensures.p c.step_over-step.ensures.most k x
+    (made_tables g h k b e child stump c.args.above.now c.args.others.now c.args.closed.now c.lows_over-lows.result x c.laws.ensures c.laws-2.ensures c.in_ok-idle.ensures.grown c.in_ok-touched.ensures.grown
+    parts refl ? c.in_ok-idle.ensures.lines idle c.in_ok-touched.ensures.lines touched)
 
 pub returns-clause-grown : goal.returns-clause-grown
 returns-clause-grown c =
