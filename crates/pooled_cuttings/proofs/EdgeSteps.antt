@@ -144,16 +144,19 @@ pub record AreParts (g : GroveContent) (b : TableBounds) (e : EdgeStep) (c t : P
 pub parts_grown : (g h : GroveContent) (b : TableBounds) (e : EdgeStep) (c t : Plain) (above others : NodeTables) (closed : List (ExtractKey × ℕ)) →
     IsGrove g → IsGrownGrove g h → AreParts g b e c t above others closed → AreParts h b e c t above others closed
 parts_grown g h b e c t above others closed is a p =
-    let ty = a.pool.types in
+    let ty = sym a.pool.types in
+    let whole = graft e.kind.0 e.p.entries c t in
     record {
-      types = rw ty p.types;
-      typed = rw ty p.typed;
+      types = subst AreTypes ty p.types;
+      typed = subst (λ (u : Types). HasTypes u whole) ty p.typed;
       bounded = p.bounded;
-      bounds = rw ty p.bounds;
-      most = rw ty p.most;
+      bounds = subst (λ (u : Types). IsTableBounds u b) ty p.bounds;
+      most = subst (λ (u : Types). e.most ≡ low u whole +ℤ pos b.excess) ty p.most;
       of_child = tables_grown g h b c above is a p.of_child;
       closed_lines = extract_lines_grown g h closed a p.closed_lines;
-      closed_sums = rw (extract_terms_grown g h closed is a p.closed_lines, ty) p.closed_sums;
+      closed_sums =
+          subst (λ (u : Types). AreSameExtracted (extracted_terms_in h closed) (closed_terms u (tables_within u most_shift c))) ty
+          (subst (λ (ts : List (Extracted × ℕ)). AreSameExtracted ts (closed_terms g.pool.types (tables_within g.pool.types most_shift c))) (sym (extract_terms_grown g h closed is a p.closed_lines)) p.closed_sums);
       of_rest = tables_grown g h b t others is a p.of_rest;
     }
 
@@ -228,6 +231,10 @@ module _ (g : GroveContent) (b : TableBounds) (edge : EdgeTo) (n : Multi) (rest 
         of_rest = o;
       })
 
+  pub lows_back : AreLows g.pool.types (graft edge.kind.0 edge.p.entries child stump) lows → AreLows g.pool.types (graft e.kind.0 e.p.entries child stump) lows
+  lows_back l =
+      subst (λ (s : EdgeStep). AreLows g.pool.types (graft s.kind.0 s.p.entries child stump) lows) (sym (step_is e edge.kind edge.p (lows.low +ℤ pos b.excess) kind p most)) l
+
   pub back : (h : GroveContent) (x : NodeTables) → AreTables h b (graft e.kind.0 e.p.entries child stump) x → AreTables h b (graft edge.kind.0 edge.p.entries child stump) x
   back h x t =
       subst (λ (s : EdgeStep). AreTables h b (graft s.kind.0 s.p.entries child stump) x) (step_is e edge.kind edge.p (lows.low +ℤ pos b.excess) kind p most) t
@@ -246,11 +253,14 @@ made_tables g h k b e c t above others closed lows x is ish a d p same l il i tl
     let whole = graft e.kind.0 e.p.entries c t in
     let ty : k.pool.types ≡ g.pool.types = d.pool.types ∙ a.pool.types in
     record {
-      lows = rw (ty, same) l;
+      lows = subst (λ (u : Types). AreLows u whole x.lows) (sym ty) (subst (AreLows g.pool.types whole) (sym same) l);
       idle_lines = extract_lines_grown h k x.idle.items d il;
-      idle = rw (ty, extract_terms_grown h k x.idle.items ish d il) (idle_table g b e c t above others closed p (extracted_terms_in h x.idle.items) i);
+      idle =
+          subst (λ (u : Types). AreSameExtracted (extracted_terms_in k x.idle.items) (tables_within u most_shift whole).idle) (sym ty)
+          (subst (λ (ts : List (Extracted × ℕ)). AreSameExtracted ts (tables_within g.pool.types most_shift whole).idle) (sym (extract_terms_grown h k x.idle.items ish d il))
+          (idle_table g b e c t above others closed p (extracted_terms_in h x.idle.items) i));
       touched_lines = tl;
-      touched = rw d.pool.types (touched_table h b e c t above others closed q (opened_terms_in k x.touched.items) s);
+      touched = subst (λ (u : Types). IsLiveTable u most_shift b.excess whole (opened_terms_in k x.touched.items)) (sym d.pool.types) (touched_table h b e c t above others closed q (opened_terms_in k x.touched.items) s);
     }
 
 -- closed lines

@@ -5,8 +5,9 @@ use Rattle.plain_trees.proofs.DegreeBounds.{units_most}
 use Rattle.tree_pool.specs.Content.{tree_at, tree_over}
 use Rattle.cutting_sizes.proofs.Bounded.{bounded_parts, bounded_small}
 use Rattle.cutting_tables.proofs.LowBounds.{lows_within}
+use Rattle.pooled_cuttings.specs.declared.tables.NodeTables.{NodeTables}
 use Rattle.pooled_cuttings.proofs.Groves.{grove_trans}
-use Rattle.pooled_cuttings.proofs.EdgeSteps.{parts_of, parts_grown, parts_step, parts_beside, parts_inside, parts_outside, made_tables, back}
+use Rattle.pooled_cuttings.proofs.EdgeSteps.{parts_of, parts_grown, parts_step, parts_beside, parts_inside, parts_outside, made_tables, lows_back, back}
 use Rattle.pooled_cuttings.proofs.tables.with_edge.Goals as goal
 
 pub lows_over-lows-requires-clause-above : goal.lows_over-lows-requires-clause-above
@@ -153,13 +154,15 @@ returns-clause-tables c =
     c.step_over-step.ensures.kind c.step_over-step.ensures.p c.step_over-step.ensures.most c.laws.ensures c.requires.bounds c.requires.tree c.requires.above c.requires.lines c.requires.closed c.requires.others lows in
     let h = c.idle_lines.new.grove in
     let k = c.touched_over.new.grove in
-    let x = record { lows = c.lows_over-lows.result; idle = c.in_ok-idle.idle; touched = c.in_ok-touched.touched } in
+    let x : NodeTables = record { lows = c.lows_over-lows.result; idle = c.in_ok-idle.idle; touched = c.in_ok-touched.touched } in
     let idle = rw c.as_slice.ensures.value at c.in_ok-idle.ensures.sums in
     let touched = rw (c.as_slice-2.ensures.value, c.as_slice-3.ensures.value) at c.in_ok-touched.ensures.sums in
     back g b edge c.args.n.now c.args.rest.now c.args.above.now c.args.others.now c.args.closed.now c.lows_over-lows.result e
     c.step_over-step.ensures.kind c.step_over-step.ensures.p c.step_over-step.ensures.most k x
     (made_tables g h k b e child stump c.args.above.now c.args.others.now c.args.closed.now c.lows_over-lows.result x c.laws.ensures c.laws-2.ensures c.in_ok-idle.ensures.grown c.in_ok-touched.ensures.grown
-    parts refl ? c.in_ok-idle.ensures.lines idle c.in_ok-touched.ensures.lines touched)
+    parts refl
+    (lows_back g b edge c.args.n.now c.args.rest.now c.args.above.now c.args.others.now c.args.closed.now c.lows_over-lows.result e c.step_over-step.ensures.kind c.step_over-step.ensures.p c.step_over-step.ensures.most lows)
+    c.in_ok-idle.ensures.lines idle c.in_ok-touched.ensures.lines touched)
 
 pub returns-clause-grown : goal.returns-clause-grown
 returns-clause-grown c =
