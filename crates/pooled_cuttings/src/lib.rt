@@ -15,6 +15,7 @@ mod made;
 mod outside;
 mod right;
 
+mod seeds;
 mod steps;
 mod tables;
 
