@@ -63,3 +63,11 @@ shift_within ty s h b = shift_most ty (scaled_size ty.scaling s) (sum s) h (scal
 
 pub low_goal : (b : Bool) (o : Ordering) (a z most : ℤ) → b ≡ is_gt o → o ≡ int_cmp a most → a ≡ z → not b ≡ not (is_gt (int_cmp z most))
 low_goal b o a z most h k e = ap not (h ∙ ap is_gt k) ∙ low_by a z most e
+
+pub not_low : (a most : ℤ) → not (is_gt (int_cmp a most)) ≡ false → most <ℤ a
+not_low a most h =
+    (elim (int_cmp a most) as (λ o. Ranked a most o → not (is_gt o) ≡ false → most <ℤ a) [
+      | Less ↦ λ r e. absurd cc
+      | Equal ↦ λ r e. absurd cc
+      | Greater ↦ λ r e. r
+    ]) (ranked a most) h

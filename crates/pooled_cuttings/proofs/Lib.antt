@@ -1,4 +1,5 @@
 pub mod Degrees
+pub mod EdgeSteps
 pub mod Finished
 pub mod Fitting
 pub mod Groves

@@ -13,7 +13,7 @@ use Rattle.pooled_cuttings.specs.declared.keys.ExtractKey.{ExtractKey}
 use Rattle.pooled_cuttings.specs.declared.steps.EdgeStep.{EdgeStep}
 use Rattle.pooled_cuttings.specs.Groves.{GroveContent, IsGrove, IsGrownGrove}
 use Rattle.pooled_cuttings.specs.Lines.{opened_in, extracted_in, opened_terms_in, extracted_terms_in, IsOpenKey, IsExtractKey, IsOpenLine, IsExtractLine, AreOpenLines, AreExtractLines}
-use Rattle.pooled_cuttings.specs.Products.{kept_terms, inside_term, outside_term, beside_term, IsInsideFit, IsOutsideFit, IsBesideFit, AreInsideFit, AreOutsideFit, AreBesideFit}
+use Rattle.pooled_cuttings.specs.Products.{kept_terms, touched_products, inside_term, outside_term, beside_term, IsInsideFit, IsOutsideFit, IsBesideFit, AreInsideFit, AreOutsideFit, AreBesideFit}
 use Rattle.pooled_cuttings.proofs.Means.{pair_of, opened_grown, extracted_grown, open_terms_grown, extract_terms_grown, open_line_grown, extract_line_grown, open_lines_grown, extract_lines_grown}
 use Rattle.pooled_cuttings.proofs.ProductRows.{saturated_terms-append, kept_terms-append}
 use Rattle.pooled_cuttings.proofs.Rows.{row_step, all_at}
@@ -228,3 +228,29 @@ shift_at ss i = get_or ss i (record { entries = [] })
 
 pub shift_is : (ss : List Multi) (i : ℕ) → i < length ss → shift_at ss i ≡ get_or ss i (shift_at ss i)
 shift_is ss i lt = get_or_default ss i (record { entries = [] }) (shift_at ss i) lt
+
+-- all shifts in a grove that has grown
+module _ (g h : GroveContent) (is : IsGrove g) (a : IsGrownGrove g h) (e : EdgeStep) (xs : List (ExtractKey × ℕ)) (ys : List (OpenKey × ℕ)) (i : AreExtractLines g xs) (j : AreOpenLines g ys) where
+  pub shift_fits_grown : (ss : List Multi) → AllByRecursion (λ s. AreOutsideFit g e s.entries xs ys) ss → AllByRecursion (λ s. AreOutsideFit h e s.entries xs ys) ss
+  shift_fits_grown [] fits = tt
+  shift_fits_grown (s ∷ ss) fits = (outside_all_fits_grown g h is a e s.entries xs ys i j fits.0, shift_fits_grown ss fits.1)
+
+  pub outside_shifts_grown : (ss : List Multi) → outside_shifts h e xs ys ss ≡ outside_shifts g e xs ys ss
+  outside_shifts_grown ss =
+      ap (λ (ty : Types). kept_terms ty e.most (flat_map (λ s. products (outside_factor s) (outside s e.kind.0 e.p.entries) (extracted_terms_in h xs) (opened_terms_in h ys)) (map (λ m. m.entries) ss))) a.pool.types
+      ∙ ap (λ (zs : List (Extracted × ℕ)). kept_terms g.pool.types e.most (flat_map (λ s. products (outside_factor s) (outside s e.kind.0 e.p.entries) zs (opened_terms_in h ys)) (map (λ m. m.entries) ss)))
+      (extract_terms_grown g h xs is a i)
+      ∙ ap (λ (ts : List (Opened × ℕ)). kept_terms g.pool.types e.most (flat_map (λ s. products (outside_factor s) (outside s e.kind.0 e.p.entries) (extracted_terms_in g xs) ts) (map (λ m. m.entries) ss)))
+      (open_terms_grown g h ys is a j)
+
+  pub all_products_are : (k : GroveContent) (above : List (OpenKey × ℕ)) (ss : List Multi) (first second last : List (OpenKey × ℕ)) → first ≡ [] →
+      opened_terms_in h second ≡ opened_terms_in g first ++ inside_rows g e ys above → opened_terms_in k last ≡ opened_terms_in h second ++ outside_shifts h e xs ys ss →
+      opened_terms_in k last
+      ≡ kept_terms g.pool.types e.most (touched_products e (map (λ m. m.entries) ss) (opened_terms_in g above) (extracted_terms_in g xs) (opened_terms_in g ys))
+  all_products_are k above ss first second last none one two =
+      two
+      ∙ ap (λ (ts : List (Opened × ℕ)). ts ++ outside_shifts h e xs ys ss) (one ∙ ap (λ (ls : List (OpenKey × ℕ)). opened_terms_in g ls ++ inside_rows g e ys above) none)
+      ∙ ap (λ (ts : List (Opened × ℕ)). inside_rows g e ys above ++ ts) (outside_shifts_grown ss)
+      ∙ sym (kept_terms-append g.pool.types e.most
+      (products inside_factor (inside e.kind.0 e.p.entries) (opened_terms_in g above) (opened_terms_in g ys))
+      (flat_map (λ s. products (outside_factor s) (outside s e.kind.0 e.p.entries) (extracted_terms_in g xs) (opened_terms_in g ys)) (map (λ m. m.entries) ss)))

@@ -1,8 +1,9 @@
 -- Lines that are joined mean terms with the same sums.
-use Rattle.std.proofs.Common.{◌≡◌, ℕ, ◌<◌, ◌≤◌, Bool, true, List, [], ◌∷◌, refl}
+use Rattle.std.proofs.Common.{◌≡◌, ℕ, ◌<◌, ◌≤◌, Bool, true, List, [], ◌∷◌, ◌++◌, refl, ap, ◌∙◌}
 use Rattle.std.specs.List.{AllByRecursion}
-use Rattle.exact_sums.specs.Saturating.{overflow}
-use Rattle.exact_sums.specs.Keyed.{IsExactTest, HaveSameSaturatedSums, rekeyed}
+use Rattle.exact_sums.specs.Saturating.{overflow, saturated}
+use Rattle.exact_sums.proofs.KeyedLaws.{saturated_sums}
+use Rattle.exact_sums.specs.Keyed.{IsExactTest, HaveSameSaturatedSums, rekeyed, sum_at, saturated_terms}
 use Rattle.cutting_tables.proofs.Sums.{same_rekeyed}
 use Rattle.pooled_cuttings.proofs.Members.{keys_hold, all_more}
 
@@ -25,3 +26,8 @@ collected_lines {K} same o Q new old h above a =
 
 pub all_above : {K : Type 0} (Q : K → Type 0) (xs : List (K × ℕ)) → AllByRecursion (Counted Q) xs → AllByRecursion (λ x. 0 < x.1) xs
 all_above {K} Q xs a = all_more (Counted Q) (λ (x : K × ℕ). 0 < x.1) xs (λ x p. p.1) a
+
+pub after_collecting : {K : Type 0} (same : K → K → Bool) (new old start ts : List (K × ℕ)) → HaveSameSaturatedSums same new old → start ≡ [] → old ≡ start ++ saturated_terms ts →
+    HaveSameSaturatedSums same new ts
+after_collecting {K} same new old start ts h none e = λ k.
+    h k ∙ ap (λ (us : List (K × ℕ)). saturated (sum_at same k us)) (e ∙ ap (λ (us : List (K × ℕ)). us ++ saturated_terms ts) none) ∙ saturated_sums same ts k

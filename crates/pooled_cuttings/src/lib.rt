@@ -3,6 +3,7 @@
 #![tactic(auto)]
 
 mod beside;
+mod branches;
 mod closing;
 mod collecting;
 mod grove;
@@ -16,6 +17,7 @@ mod outside;
 mod right;
 mod right_products;
 mod right_shifts;
+mod seeds;
 mod steps;
 mod tables;
 
