@@ -1,24 +1,29 @@
 -- What products make of lines with the sums of the tables of recentring of a tree that is not too large is small.
-use Rattle.std.proofs.Common.{◌≡◌, ℕ, suc, ◌+◌, ◌*◌, ◌/◌, ◌<◌, ◌≤◌, ℤ, pos, ◌+ℤ◌, ◌-ℤ◌, ◌<ℤ◌, ◌≤ℤ◌, Bool, true, false, cond, inl, inr, List, [], ◌∷◌, ◌++◌, map, filter, length, sum, refl, sym, ap, ◌∙◌, arith, subst, unsigned_abs}
+use Rattle.std.proofs.Common.{◌≡◌, ℕ, suc, ◌+◌, ◌*◌, ◌/◌, ◌<◌, ◌≤◌, ℤ, pos, ◌+ℤ◌, ◌-ℤ◌, ◌<ℤ◌, ◌≤ℤ◌, Bool, true, false, cond, inl, inr, List, [], ◌∷◌, ◌++◌, map, filter, length, sum, refl, sym, ap, ◌∙◌, arith, subst, unsigned_abs, append-nil, Result, Ok, Err}
+use Rattle.std.specs.Prelude.{IfOk}
 use Rattle.std.specs.List.{AllByRecursion}
 use Rattle.std.proofs.lemmas.Int.{ints}
+use Rattle.std.proofs.lemmas.List.{map-append}
+use Rattle.std.proofs.lemmas.List.Elements.{filter-append}
+use Rattle.std.proofs.lemmas.Option.{slice_get-get_or}
 use Rattle.std.proofs.Math.Nat.{div-lt_iff_lt-mul}
 use Rattle.ordered_lists.specs.Members.{IsIn}
 use Rattle.exact_sums.specs.Keyed.{rekeyed, same_by}
 use Rattle.degree_numbers.specs.declared.types.Types.{Types}
 use Rattle.degree_numbers.specs.declared.degree.Degree.{Degree}
 use Rattle.degree_numbers.specs.declared.multi.Multi.{Multi}
-use Rattle.degree_numbers.specs.Degree.{degree_plus}
+use Rattle.degree_numbers.specs.Degree.{degree_plus, degree_zero, degree_order, IsWithin}
 use Rattle.degree_numbers.specs.Types.{AreTypes, size_in_units}
 use Rattle.degree_numbers.specs.Multi.{plus_of}
-use Rattle.plain_trees.specs.Plain.{Plain, graft}
+use Rattle.plain_trees.specs.Plain.{Plain, bare, graft}
 use Rattle.plain_trees.specs.Canon.{canon}
 use Rattle.plain_trees.specs.Degree.{HasTypes, edge_degree_of, degree_of}
 use Rattle.plain_trees.specs.Cutting.{limits, shifts}
 use Rattle.plain_trees.specs.Coproducts.{Recentred, are_above_zero, is_above_zero, each_direction, recentred_order, positive_size}
+use Rattle.plain_trees.proofs.DegreeBounds.{small_b}
 use Rattle.plain_trees.proofs.DegreeLaws.{canon_types}
 use Rattle.tree_pool.specs.declared.node.EdgeTo.{EdgeTo}
-use Rattle.tree_pool.specs.Content.{Content, tree_at}
+use Rattle.tree_pool.specs.Content.{Content, tree_at, tree_over, IsPooled, IsGrown}
 use Rattle.tree_cuttings.specs.Entries.{Entry, with_inside, with_outside}
 use Rattle.tree_cuttings.specs.Rooted.{whole_entry, rooted_entries}
 use Rattle.tree_cuttings.specs.Terms.{recentred_entry}
@@ -38,7 +43,7 @@ use Rattle.cutting_tables.proofs.Rooted.{recentred_term, recentred_keyed, recent
 use Rattle.cutting_tables.proofs.Steps.{exact_recentred}
 use Rattle.pooled_cuttings.specs.declared.keys.RightKey.{RightKey}
 use Rattle.pooled_cuttings.specs.Lines.{recentred_in, recentred_terms_in, AreRightLines}
-use Rattle.pooled_cuttings.specs.NodeTables.{IsRightTable}
+use Rattle.pooled_cuttings.specs.NodeTables.{IsRightTable, IsOneMoreFit}
 use Rattle.pooled_cuttings.specs.Products.{CanHold}
 use Rattle.pooled_cuttings.specs.RightProducts.{IsRightFit, IsRightEdge, IsRightShifts, branch_of, lowered, left_product, left_terms, right_product, right_terms, AreLeftFit, AreRightFit}
 use Rattle.pooled_cuttings.proofs.Fitting.{more_shifts, shift_sum}
@@ -79,7 +84,7 @@ module _ (ty : Types) where
 
   pub right_of_table : (t : Plain) (ts : List (Recentred × ℕ)) → AreSameRecentred ts (recentred_within ty most_shift t) → AllByRecursion (λ x. 0 < x.1) ts →
       AllByRecursion (λ x. IsRightOf t x.0) ts
-  right_of_table t ts h pos = keys_hold (same_by recentred_order) exact_recentred (IsRightOf t) ts (recentred_within ty most_shift t) h pos (right_keys t)
+  right_of_table t ts h some = keys_hold (same_by recentred_order) exact_recentred (IsRightOf t) ts (recentred_within ty most_shift t) h some (right_keys t)
 
   -- products are keys of the tree with one more edge
   pub left_of : (k : ℕ) (p : List ℕ) (c t : Plain) (x y : Recentred) → IsRightOf c x → IsRightOf t y → IsRightOf (graft k p c t) (left_inside k p x y)
@@ -226,3 +231,94 @@ small_below d m p five most =
 
 pub all_filtered : {X : Type 0} (P : X → Type 0) (p : X → Bool) (xs : List X) → AllByRecursion P xs → AllByRecursion P (filter p xs)
 all_filtered P p xs a = all_in P (filter p xs) (λ x i. in_all P xs x a (in_filter p x xs i).0)
+
+-- degrees of branches
+pub pool_degree_b : (c : Content) (i : ℕ) → IsPooled c → i < length c.trees → IsWithin (degree_of c.types (tree_at c i)).b 100000000000
+pool_degree_b c i pool h = small_b c.types (tree_at c i) pool.types (pool.kept i (tree_at c i) (slice_get-get_or c.trees i (bare []) h)).small
+
+pub order_by : (ty : Types) (d left : Degree) (s : List ℕ) (size : ℤ) → left.a ≡ d.a -ℤ size → left.b ≡ d.b → size ≡ pos (size_in_units ty s) →
+    degree_order left (record { a = pos 0; b = pos 0 }) ≡ degree_order (lowered ty d s) degree_zero
+order_by ty d left s size h i e =
+    ap (λ (x : ℤ). degree_order (record { a = x; b = left.b }) degree_zero) (h ∙ ap (λ (x : ℤ). d.a -ℤ x) e)
+    ∙ ap (λ (x : ℤ). degree_order (record { a = d.a -ℤ pos (size_in_units ty s); b = x }) degree_zero) i
+
+-- the shifts that are kept, one by one
+module _ (test : List ℕ → Bool) where
+  abbrev pub kept_row : List Multi → List (List ℕ)
+  kept_row ss = filter test (map (λ m. m.entries) ss)
+
+  abbrev pub kept_one : Multi → List (List ℕ)
+  kept_one s = filter test (s.entries ∷ [])
+
+  pub kept_parts : (s : Multi) (ss : List Multi) → kept_row (s ∷ ss) ≡ kept_one s ++ kept_row ss
+  kept_parts s ss = filter-append test (s.entries ∷ []) (map (λ m. m.entries) ss)
+
+  pub kept_put : (old new : List Multi) (s : Multi) → test s.entries ≡ true → new ≡ old ++ s ∷ [] → map (λ m. m.entries) new ≡ map (λ m. m.entries) old ++ kept_one s
+  kept_put old new s h e =
+      ap (λ (ms : List Multi). map (λ m. m.entries) ms) e ∙ map-append (λ (m : Multi). m.entries) old (s ∷ [])
+      ∙ ap (λ (b : Bool). map (λ m. m.entries) old ++ cond b (s.entries ∷ []) []) (sym h)
+
+  pub kept_not : (old : List Multi) (s : Multi) → test s.entries ≡ false → map (λ m. m.entries) old ≡ map (λ m. m.entries) old ++ kept_one s
+  kept_not old s h =
+      sym (append-nil (map (λ m. m.entries) old)) ∙ ap (λ (b : Bool). map (λ m. m.entries) old ++ cond b (s.entries ∷ []) []) (sym h)
+
+all_mapped : (P : List ℕ → Type 0) (ss : List Multi) → AllByRecursion (λ s. P s.entries) ss → AllByRecursion P (map (λ m. m.entries) ss)
+all_mapped P [] a = tt
+all_mapped P (s ∷ ss) a = (a.0, all_mapped P ss a.1)
+
+pub if_ok_more : {V E : Type 0} (r : Result V E) (P Q : V → Type 0) → ((v : V) → P v → Q v) → IfOk r P → IfOk r Q
+if_ok_more (Ok v) P Q h a = h v a
+if_ok_more (Err e) P Q h a = tt
+
+pub if_ok_two : {V E : Type 0} (r : Result V E) (P Q R : V → Type 0) → ((v : V) → P v → Q v → R v) → IfOk r P → IfOk r Q → IfOk r R
+if_ok_two (Ok v) P Q R h a b = h v a b
+if_ok_two (Err e) P Q R h a b = tt
+
+pub small_shifts_of : (d m : ℕ) (p : List ℕ) (all slice : List Multi) → length p ≡ 5 → m ≤ most_shift → map (λ m. m.entries) all ≡ shifts (each_direction d m) p → slice ≡ all →
+    AllByRecursion (λ s. sum s.entries ≤ 8192) slice
+small_shifts_of d m p all slice five most whole same =
+    subst (AllByRecursion (λ (s : Multi). sum s.entries ≤ 8192)) (sym same)
+    (all_unmapped (λ (s : List ℕ). sum s ≤ 8192) (λ (s : Multi). s.entries) all
+    (subst (AllByRecursion (λ (s : List ℕ). sum s ≤ 8192)) (sym whole) (small_below d m p five most)))
+
+pub small_kept : (test : List ℕ → Bool) (slice kept : List Multi) → AllByRecursion (λ s. sum s.entries ≤ 8192) slice → map (λ m. m.entries) kept ≡ filter test (map (λ m. m.entries) slice) →
+    AllByRecursion (λ s. sum s.entries ≤ 8192) kept
+small_kept test slice kept a e =
+    all_unmapped (λ (s : List ℕ). sum s ≤ 8192) (λ (s : Multi). s.entries) kept
+    (subst (AllByRecursion (λ (s : List ℕ). sum s ≤ 8192)) (sym e)
+    (all_filtered (λ (s : List ℕ). sum s ≤ 8192) test (map (λ m. m.entries) slice) (all_mapped (λ (s : List ℕ). sum s ≤ 8192) slice a)))
+
+pub kept_are : (c : Content) (e : EdgeTo) (one two three : Types) (b : Degree) (m : ℕ) (all slice kept : List Multi) → one ≡ c.types → two ≡ c.types → three ≡ c.types → b ≡ branch_of c e →
+    m ≤ most_shift → b.a <ℤ pos (unsigned_abs one.units.den * suc m) → map (λ m. m.entries) all ≡ shifts (each_direction two.dims m) e.p.entries → slice ≡ all →
+    map (λ m. m.entries) kept ≡ filter (λ s. is_above_zero (lowered three b s)) (map (λ m. m.entries) slice) → IsRightShifts c e (map (λ m. m.entries) kept)
+kept_are c e one two three b m all slice kept h i j branch most ample whole same is =
+    shifts_are c e m (map (λ m. m.entries) all) (map (λ m. m.entries) kept) most
+    (subst (λ (d : Degree). d.a <ℤ pos (unsigned_abs c.types.units.den * suc m)) branch (subst (λ (ty : Types). b.a <ℤ pos (unsigned_abs ty.units.den * suc m)) h ample))
+    (subst (λ (ty : Types). map (λ m. m.entries) all ≡ shifts (each_direction ty.dims m) e.p.entries) i whole)
+    (subst (λ (d : Degree). map (λ m. m.entries) kept ≡ filter (λ s. is_above_zero (lowered c.types d s)) (map (λ m. m.entries) all)) branch
+    (subst (λ (ty : Types). map (λ m. m.entries) kept ≡ filter (λ s. is_above_zero (lowered ty b s)) (map (λ m. m.entries) all)) j
+    (subst (λ (ss : List Multi). map (λ m. m.entries) kept ≡ filter (λ s. is_above_zero (lowered three b s)) (map (λ m. m.entries) ss)) same is)))
+
+-- the table of the tree with one more edge, in a pool that has grown
+pub one_more_table : (c d : Content) (e : EdgeTo) (rest : Plain) (above others : List (RightKey × ℕ)) (new : List (RightKey × ℕ)) (ss : List (List ℕ)) →
+    AreRightParts c e rest above others → IsGrown c d → AreRightLines d new → IsRightShifts c e ss →
+    AreSameRecentred (recentred_terms_in d new)
+    (left_terms e (recentred_terms_in c above) (recentred_terms_in c others) ++ right_terms e (tree_at c e.child.0) ss (recentred_terms_in c others)) →
+    IsRightTable d (graft e.kind.0 e.p.entries (tree_at c e.child.0) rest) new
+one_more_table c d e rest above others new ss p a lines is h = record {
+  lines = lines;
+  sums =
+      subst (λ (ty : Types). AreSameRecentred (recentred_terms_in d new) (recentred_within ty most_shift (graft e.kind.0 e.p.entries (tree_at c e.child.0) rest))) (sym a.types)
+      (right_table c e rest above others p (recentred_terms_in d new) ss is h);
+}
+
+pub parts_at : (c : Content) (e : EdgeTo) (n : Multi) (rest : List EdgeTo) (above others : List (RightKey × ℕ)) → IsPooled c → IsOneMoreFit c e n rest →
+    IsRightTable c (tree_at c e.child.0) above → IsRightTable c (tree_over c.trees n.entries rest) others → AreRightParts c e (tree_over c.trees n.entries rest) above others
+parts_at c e n rest above others pool one a o = record {
+  types = pool.types;
+  typed = one.types;
+  fit = one.fit;
+  child = one.known.0;
+  of_child = a;
+  of_rest = o;
+}

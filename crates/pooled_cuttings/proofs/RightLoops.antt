@@ -124,3 +124,29 @@ module _ (c d : Content) (a : IsGrown c d) (e : EdgeTo) where
     pub right_fits_grown : (ys : List (RightKey × ℕ)) → AreRightLines c ys → AreRightFit c e s ys → AreRightFit d e s ys
     right_fits_grown [] j fits = tt
     right_fits_grown (y ∷ ys) j fits = (right_fit_grown y j.0 fits.0, right_fits_grown ys j.1 fits.1)
+
+  pub right_rows_grown : IsRightEdge c e → (ys : List (RightKey × ℕ)) (ss : List Multi) → AreRightLines c ys → right_rows d e ys ss ≡ right_rows c e ys ss
+  right_rows_grown edge ys ss j =
+      let terms : Plain → List (Recentred × ℕ) → List (Recentred × ℕ) = λ t vs. saturated_terms (right_terms e t (map (λ m. m.entries) ss) vs) in
+      ap (λ (t : Plain). terms t (recentred_terms_in d ys)) (grown_at c d e.child.0 a edge.child)
+      ∙ ap (λ (vs : List (Recentred × ℕ)). terms (tree_at c e.child.0) vs) (right_terms_grown c d ys a j)
+
+  pub all_right_fits_grown : IsRightEdge c e → (ys : List (RightKey × ℕ)) → AreRightLines c ys → (ss : List Multi) → AllByRecursion (λ s. AreRightFit c e s.entries ys) ss →
+      AllByRecursion (λ s. AreRightFit d e s.entries ys) ss
+  all_right_fits_grown edge ys j [] fits = tt
+  all_right_fits_grown edge ys j (s ∷ ss) fits = (right_fits_grown edge s.entries ys j fits.0, all_right_fits_grown edge ys j ss fits.1)
+
+  -- both kinds of products
+  pub both_rows : IsRightEdge c e → (f : Content) (xs ys : List (RightKey × ℕ)) (ss : List Multi) (start left all : List (RightKey × ℕ)) → AreRightLines c ys → start ≡ [] →
+      recentred_terms_in d left ≡ recentred_terms_in c start ++ left_rows c e ys xs →
+      recentred_terms_in f all ≡ recentred_terms_in d left ++ right_rows d e ys ss →
+      recentred_terms_in f all
+      ≡ saturated_terms
+      (left_terms e (recentred_terms_in c xs) (recentred_terms_in c ys)
+      ++ right_terms e (tree_at c e.child.0) (map (λ m. m.entries) ss) (recentred_terms_in c ys))
+  both_rows edge f xs ys ss start left all j none first second =
+      second
+      ∙ ap (λ (us : List (Recentred × ℕ)). us ++ right_rows d e ys ss) (first ∙ ap (λ (ls : List (RightKey × ℕ)). recentred_terms_in c ls ++ left_rows c e ys xs) none)
+      ∙ ap (λ (us : List (Recentred × ℕ)). left_rows c e ys xs ++ us) (right_rows_grown edge ys ss j)
+      ∙ sym (saturated_terms-append (left_terms e (recentred_terms_in c xs) (recentred_terms_in c ys))
+      (right_terms e (tree_at c e.child.0) (map (λ m. m.entries) ss) (recentred_terms_in c ys)))

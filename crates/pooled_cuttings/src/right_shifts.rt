@@ -1,5 +1,6 @@
 // The shifts of an edge that leave its branch a degree above 0.
-ghost use Rattle.std.specs.Prelude.{◌≡◌, ◌≤◌, ◌*◌, ◌<ℤ◌, suc, sum, map, filter, pos, unsigned_abs, IfOk};
+ghost use Rattle.std.specs.Prelude.{◌≡◌, ◌≤◌, ◌*◌, ◌<ℤ◌, ◌-ℤ◌, suc, sum, map, filter, length, pos, unsigned_abs, FitsSigned, IfOk};
+ghost use Rattle.std.specs.Int.{w64};
 ghost use Rattle.std.specs.List.{AllByRecursion};
 ghost use Rattle.degree_numbers.specs.Degree.{IsWithin};
 ghost use Rattle.degree_numbers.specs.Types.{AreTypes};
@@ -24,6 +25,18 @@ fn branch_degree(pool: &Pool<'_>, edge: &EdgeTo) -> Degree
     edge_degree(pool.types(), edge.kind, &edge.p).plus(&pool.degree(edge.child))
 }
 
+/// A degree less a size, which is a standard part.
+fn less(branch: &Degree, size: i64) -> Degree
+    requires { FitsSigned w64 (branch.now.a -ℤ size) }
+    ensures a { result.a ≡ branch.now.a -ℤ size }
+    ensures b { result.b ≡ branch.now.b }
+{
+    Degree {
+        a: branch.a - size,
+        b: branch.b,
+    }
+}
+
 /// Whether a branch of this degree has one above 0 when its edge is raised by `s`.
 fn stays_above_zero(types: &Types, branch: &Degree, s: &Multi) -> bool
     requires types { AreTypes types.now }
@@ -31,12 +44,8 @@ fn stays_above_zero(types: &Types, branch: &Degree, s: &Multi) -> bool
     requires small { sum s.now.entries ≤ 8192 }
     ensures { result ≡ is_above_zero (lowered types.now branch.now s.now.entries) }
 {
-    let size = shift_size(types, s);
-    let raised = Degree {
-        a: branch.a - size,
-        b: branch.b,
-    };
-    raised.order(&Degree { a: 0, b: 0 }).is_gt()
+    let left = less(branch, shift_size(types, s));
+    left.order(&Degree { a: 0, b: 0 }).is_gt()
 }
 
 /// The greatest shift in one direction that a branch of this degree has to be tried with.
@@ -82,6 +91,7 @@ pub(crate) fn right_shifts(
     edge: &EdgeTo,
 ) -> Result<Vec<Multi>, AllocError>
     requires edge { IsRightEdge pool.now edge.now }
+    requires decoration { length edge.now.p.entries ≡ 5 }
     requires high { (branch_of pool.now edge.now).a
         <ℤ pos (unsigned_abs pool.now.types.units.den * suc most_shift) }
     ensures small { IfOk result (λ ss. AllByRecursion (λ s. sum s.entries ≤ 8192) ss.items) }
