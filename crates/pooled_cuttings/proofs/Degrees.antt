@@ -71,3 +71,6 @@ not_low a most h =
       | Equal ↦ λ r e. absurd cc
       | Greater ↦ λ r e. r
     ]) (ranked a most) h
+
+pub low_same : (b : Bool) (ty u : Types) (m n : ℤ) (t : Plain) → b ≡ is_low ty m t → m ≡ n → ty ≡ u → is_low u n t ≡ b
+low_same b ty u m n t h e s = sym (h ∙ ap (λ (z : ℤ). is_low ty z t) e ∙ ap (λ (v : Types). is_low v n t) s)

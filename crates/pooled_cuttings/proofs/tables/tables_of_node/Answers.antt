@@ -1,0 +1,4 @@
+use Rattle.pooled_cuttings.proofs.tables.tables_of_node.Goals as goal
+
+pub returns-clause-tables : goal.returns-clause-tables
+returns-clause-tables c = ?
