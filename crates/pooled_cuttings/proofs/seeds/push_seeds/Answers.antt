@@ -1,4 +1,4 @@
-use Rattle.std.proofs.Common.{◌≡◌, ◌∙◌, ◌++◌, ap, refl, subst, sym, List, [], ◌∷◌, ℕ}
+use Rattle.std.proofs.Common.{◌≡◌, ◌∙◌, ◌++◌, ap, refl, subst, sym, List, [], ◌∷◌, ℕ, pos}
 use Rattle.degree_numbers.specs.declared.types.Types.{Types}
 use Rattle.pooled_cuttings.specs.Lines.{opened_terms_in}
 use Rattle.pooled_cuttings.specs.Products.{IsPart, kept_terms, seed}
@@ -27,12 +27,12 @@ loop-a-preserved c =
     let h = c.loop-a.grove in
     let n = c.args.n.now.entries in
     let a = shift_at c.args.parts.now c.loop-a.a-index in
-    let put = c.in_ok-push_seed.ensures.terms ∙ ap (λ (ty : Types). opened_terms_in h c.loop-a.lines.items ++ kept_terms ty c.args.most (seed n a.entries ∷ [])) c.loop-a.invariant.grown.pool.types in
+    let put = c.in_ok-push_seed.ensures.terms ∙ ap (λ (ty : Types). opened_terms_in h c.loop-a.lines.items ++ kept_terms ty (pos c.args.bounds.now.excess) (seed n a.entries ∷ [])) c.loop-a.invariant.grown.pool.types in
     record {
       grown = grove_trans g h c.push_seed.new.grove c.loop-a.invariant.grown c.in_ok-push_seed.ensures.grown;
       lines = c.in_ok-push_seed.ensures.lines;
       terms =
-          row_step (seed_row g c.args.most n) (λ a. kept_terms g.pool.types c.args.most (seed n a.entries ∷ [])) (seed_row_parts g c.args.most n) c.args.parts.now c.loop-a.a-index a
+          row_step (seed_row g (pos c.args.bounds.now.excess) n) (λ a. kept_terms g.pool.types (pos c.args.bounds.now.excess) (seed n a.entries ∷ [])) (seed_row_parts g (pos c.args.bounds.now.excess) n) c.args.parts.now c.loop-a.a-index a
           (opened_terms_in h c.loop-a.lines.items) (opened_terms_in c.push_seed.new.grove c.push_seed.new.lines.items) _ c.loop-a-test.true (shift_is c.args.parts.now c.loop-a.a-index c.loop-a-test.true) put c.loop-a.invariant.terms;
     }
 
@@ -43,4 +43,4 @@ returns-in_err-push_seed-clause-grown c =
 pub returns-clause-terms : goal.returns-clause-terms
 returns-clause-terms c =
     let g = c.args.grove.now in
-    row_end (seed_row g c.args.most c.args.n.now.entries) c.args.parts.now c.loop-a.a-index (opened_terms_in c.loop-a.grove c.loop-a.lines.items) _ refl c.loop-a-test.false c.loop-a.invariant.terms
+    row_end (seed_row g (pos c.args.bounds.now.excess) c.args.n.now.entries) c.args.parts.now c.loop-a.a-index (opened_terms_in c.loop-a.grove c.loop-a.lines.items) _ refl c.loop-a-test.false c.loop-a.invariant.terms
