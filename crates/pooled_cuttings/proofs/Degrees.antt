@@ -71,3 +71,9 @@ not_low a most h =
       | Equal ↦ λ r e. absurd cc
       | Greater ↦ λ r e. r
     ]) (ranked a most) h
+
+pub low_same : (b : Bool) (ty u : Types) (m n : ℤ) (t : Plain) → b ≡ is_low ty m t → m ≡ n → ty ≡ u → is_low u n t ≡ b
+low_same b ty u m n t h e s = sym (h ∙ ap (λ (z : ℤ). is_low ty z t) e ∙ ap (λ (v : Types). is_low v n t) s)
+
+pub low_between : (b : Bool) (o : Ordering) (a z m n : ℤ) → b ≡ is_gt o → o ≡ int_cmp a m → a ≡ z → m ≡ n → not b ≡ not (is_gt (int_cmp z n))
+low_between b o a z m n h k e f = low_goal b o a z m h k e ∙ ap (λ (y : ℤ). not (is_gt (int_cmp z y))) f

@@ -8,6 +8,7 @@ pub mod MadeKeys
 pub mod Makings
 pub mod Means
 pub mod Members
+pub mod Parts
 pub mod ProductRows
 pub mod RightFitting
 pub mod RightKeys

@@ -1,5 +1,5 @@
 // The lines of the tree with one node.
-ghost use Rattle.std.specs.Prelude.{◌≡◌, ◌≤◌, ◌∷◌, ◌++◌, [], sum, map, IfOk, OnOk};
+ghost use Rattle.std.specs.Prelude.{◌≡◌, ◌≤◌, ◌∷◌, ◌++◌, [], sum, map, pos, IfOk, OnOk};
 ghost use Rattle.std.specs.List.{AllByRecursion};
 ghost use Rattle.degree_numbers.specs.Multi.{IsAtMost, IsMultiIndex, minus_of};
 ghost use Rattle.degree_numbers.specs.Types.{AreTypes};
@@ -12,6 +12,7 @@ ghost use Rattle.pooled_cuttings.specs.Products.{is_low, kept_terms, seed, IsPar
 use crate::grove::Grove;
 use crate::keys::{ExtractKey, OpenKey};
 use crate::lines::push_line;
+use crate::tables::TableBounds;
 use cutting_tables::parts_below;
 use degree_numbers::{Multi, Types};
 use exact_sums::Saturated;
@@ -79,11 +80,13 @@ fn left_of(n: &Multi, a: &Multi) -> Multi
 }
 
 /// Whether the component with one node of this decoration is followed.
-fn is_low_node(types: &Types, most: i64, a: &Multi) -> bool
+fn is_low_node(types: &Types, bounds: &TableBounds, a: &Multi) -> bool
     requires types { AreTypes types.now }
     requires small { sum a.now.entries ≤ 4096 }
-    ensures { result ≡ is_low types.now most (bare a.now.entries) }
+    requires excess { bounds.now.excess ≤ 1120000000 }
+    ensures { result ≡ is_low types.now (pos bounds.now.excess) (bare a.now.entries) }
 {
+    let most = bounds.excess as i64;
     !node_degree(types, a).a.cmp(&most).is_gt()
 }
 
@@ -91,23 +94,24 @@ fn is_low_node(types: &Types, most: i64, a: &Multi) -> bool
 fn push_seed(
     grove: &mut Grove<'_>,
     alloc: Global,
-    most: i64,
+    bounds: &TableBounds,
     none: ForestId,
     n: &Multi,
     a: &Multi,
     lines: &mut Vec<(OpenKey, Saturated)>,
 ) -> Result<(), PoolError>
     requires none { HoldsForest grove.old none.0 [] }
+    requires excess { bounds.now.excess ≤ 1120000000 }
     requires part { IsPart grove.old.pool.types n.now.entries a.now.entries }
     requires lines { AreOpenLines grove.old lines.old.items }
     ensures lines { OnOk result (AreOpenLines grove.new lines.new.items) }
     ensures terms { OnOk result (opened_terms_in grove.new lines.new.items
         ≡ opened_terms_in grove.old lines.old.items
-        ++ kept_terms grove.old.pool.types most (seed n.now.entries a.now.entries ∷ [])) }
+        ++ kept_terms grove.old.pool.types (pos bounds.now.excess) (seed n.now.entries a.now.entries ∷ [])) }
     ensures grown { IsGrownGrove grove.old grove.new }
 {
     grove.laws();
-    if is_low_node(grove.pool().types(), most, a) {
+    if is_low_node(grove.pool().types(), bounds, a) {
         let key = seed_key(grove, alloc, none, a, &left_of(n, a))?;
         push_line(lines, (key, Saturated::of(1)))?;
     }
@@ -118,20 +122,21 @@ fn push_seed(
 pub(crate) fn seed_lines(
     grove: &mut Grove<'_>,
     alloc: Global,
-    most: i64,
+    bounds: &TableBounds,
     n: &Multi,
 ) -> Result<Vec<(OpenKey, Saturated)>, PoolError>
+    requires excess { bounds.now.excess ≤ 1120000000 }
     requires types { IsMultiIndex grove.old.pool.types.dims n.now.entries }
     requires small { sum n.now.entries ≤ 4096 }
     ensures lines { IfOk result (λ ls. AreOpenLines grove.new ls.items) }
     ensures terms { IfOk result (λ ls. opened_terms_in grove.new ls.items
-        ≡ kept_terms grove.old.pool.types most (seeds n.now.entries)) }
+        ≡ kept_terms grove.old.pool.types (pos bounds.now.excess) (seeds n.now.entries)) }
     ensures grown { IsGrownGrove grove.old grove.new }
 {
     let none = grove.no_tree(alloc)?;
     let parts = parts_below(alloc, n)?;
     let mut lines = Vec::new(alloc);
-    push_seeds(grove, alloc, most, none, n, parts.as_slice(), &mut lines)?;
+    push_seeds(grove, alloc, bounds, none, n, parts.as_slice(), &mut lines)?;
     Ok(lines)
 }
 
@@ -139,26 +144,27 @@ pub(crate) fn seed_lines(
 fn push_seeds(
     grove: &mut Grove<'_>,
     alloc: Global,
-    most: i64,
+    bounds: &TableBounds,
     none: ForestId,
     n: &Multi,
     parts: &[Multi],
     lines: &mut Vec<(OpenKey, Saturated)>,
 ) -> Result<(), PoolError>
     requires none { HoldsForest grove.old none.0 [] }
+    requires excess { bounds.now.excess ≤ 1120000000 }
     requires parts { AllByRecursion (λ a. IsPart grove.old.pool.types n.now.entries a.entries)
         parts.now }
     requires lines { AreOpenLines grove.old lines.old.items }
     ensures lines { OnOk result (AreOpenLines grove.new lines.new.items) }
     ensures terms { OnOk result (opened_terms_in grove.new lines.new.items
         ≡ opened_terms_in grove.old lines.old.items
-        ++ kept_terms grove.old.pool.types most
+        ++ kept_terms grove.old.pool.types (pos bounds.now.excess)
         (map (seed n.now.entries) (map (λ a. a.entries) parts.now))) }
     ensures grown { IsGrownGrove grove.old grove.new }
 {
     grove.laws();
     for a in parts {
-        push_seed(grove, alloc, most, none, n, a, lines)?;
+        push_seed(grove, alloc, bounds, none, n, a, lines)?;
     }
     Ok(())
 }

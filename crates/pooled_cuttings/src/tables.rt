@@ -58,7 +58,7 @@ pub fn tables_of_node(
 {
     let idle = idle_seed(grove, alloc, n)?;
     grove.laws();
-    let touched = seed_lines(grove, alloc, bounds.excess as i64, n)?;
+    let touched = seed_lines(grove, alloc, bounds, n)?;
     Ok(NodeTables {
         lows: Lows::of_node(),
         idle,
