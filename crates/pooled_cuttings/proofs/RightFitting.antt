@@ -8,7 +8,8 @@ use Rattle.std.proofs.lemmas.List.Elements.{filter-append}
 use Rattle.std.proofs.lemmas.Option.{slice_get-get_or}
 use Rattle.std.proofs.Math.Nat.{div-lt_iff_lt-mul}
 use Rattle.ordered_lists.specs.Members.{IsIn}
-use Rattle.exact_sums.specs.Keyed.{rekeyed, same_by}
+use Rattle.exact_sums.specs.Saturating.{saturated}
+use Rattle.exact_sums.specs.Keyed.{rekeyed, same_by, sum_at}
 use Rattle.degree_numbers.specs.declared.types.Types.{Types}
 use Rattle.degree_numbers.specs.declared.degree.Degree.{Degree}
 use Rattle.degree_numbers.specs.declared.multi.Multi.{Multi}
@@ -19,6 +20,7 @@ use Rattle.plain_trees.specs.Plain.{Plain, bare, graft}
 use Rattle.plain_trees.specs.Canon.{canon}
 use Rattle.plain_trees.specs.Degree.{HasTypes, edge_degree_of, degree_of}
 use Rattle.plain_trees.specs.Cutting.{limits, shifts}
+use Rattle.plain_trees.specs.Multinomials.{below}
 use Rattle.plain_trees.specs.Coproducts.{Recentred, are_above_zero, is_above_zero, each_direction, recentred_order, positive_size}
 use Rattle.plain_trees.proofs.DegreeBounds.{small_b}
 use Rattle.plain_trees.proofs.DegreeLaws.{canon_types}
@@ -45,7 +47,7 @@ use Rattle.pooled_cuttings.specs.declared.keys.RightKey.{RightKey}
 use Rattle.pooled_cuttings.specs.Lines.{recentred_in, recentred_terms_in, AreRightLines}
 use Rattle.pooled_cuttings.specs.NodeTables.{IsRightTable, IsOneMoreFit}
 use Rattle.pooled_cuttings.specs.Products.{CanHold}
-use Rattle.pooled_cuttings.specs.RightProducts.{IsRightFit, IsRightEdge, IsRightShifts, branch_of, lowered, left_product, left_terms, right_product, right_terms, AreLeftFit, AreRightFit}
+use Rattle.pooled_cuttings.specs.RightProducts.{IsRightFit, IsRightEdge, IsRightShifts, right_seed, branch_of, lowered, left_product, left_terms, right_product, right_terms, AreLeftFit, AreRightFit}
 use Rattle.pooled_cuttings.proofs.Fitting.{more_shifts, shift_sum}
 use Rattle.pooled_cuttings.proofs.Members.{in_all, all_in, all_more, all_mapped_in, all_unmapped, keys_hold}
 use Rattle.pooled_cuttings.proofs.SameKeys.{and_true}
@@ -322,3 +324,14 @@ parts_at c e n rest above others pool one a o = record {
   of_child = a;
   of_rest = o;
 }
+
+-- the tree with one node
+pub node_table : (c d : Content) (n : List ℕ) (start new : List (RightKey × ℕ)) (parts slice : List Multi) → IsGrown c d → start ≡ [] → slice ≡ parts → map (λ a. a.entries) parts ≡ below n →
+    AreRightLines d new → recentred_terms_in d new ≡ recentred_terms_in c start ++ map (right_seed n) (map (λ a. a.entries) slice) → IsRightTable d (bare n) new
+node_table c d n start new parts slice a none same are lines terms =
+    let whole =
+    terms
+    ∙ ap (λ (ls : List (RightKey × ℕ)). recentred_terms_in c ls ++ map (right_seed n) (map (λ a. a.entries) slice)) none
+    ∙ ap (λ (ms : List Multi). map (right_seed n) (map (λ a. a.entries) ms)) same
+    ∙ ap (λ (ms : List (List ℕ)). map (right_seed n) ms) are in
+    record { lines = lines; sums = λ key. ap (λ (ts : List (Recentred × ℕ)). saturated (sum_at (same_by recentred_order) key ts)) whole }

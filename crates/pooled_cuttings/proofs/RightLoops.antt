@@ -12,7 +12,7 @@ use Rattle.tree_pool.proofs.Growth.{grown_length, grown_at}
 use Rattle.cutting_tables.specs.Keys.{left_inside, left_factor, right_outside, right_factor}
 use Rattle.pooled_cuttings.specs.declared.keys.RightKey.{RightKey}
 use Rattle.pooled_cuttings.specs.Lines.{recentred_in, recentred_terms_in, IsRightLine, AreRightLines}
-use Rattle.pooled_cuttings.specs.RightProducts.{IsRightFit, IsRightEdge, left_product, left_terms, right_product, right_terms, AreLeftFit, AreRightFit}
+use Rattle.pooled_cuttings.specs.RightProducts.{IsRightFit, IsRightEdge, left_product, left_terms, right_product, right_terms, right_seed, AreLeftFit, AreRightFit}
 use Rattle.pooled_cuttings.proofs.Means.{recentred_grown, right_terms_grown}
 use Rattle.pooled_cuttings.proofs.ProductRows.{saturated_terms-append}
 
@@ -150,3 +150,10 @@ module _ (c d : Content) (a : IsGrown c d) (e : EdgeTo) where
       ∙ ap (λ (us : List (Recentred × ℕ)). left_rows c e ys xs ++ us) (right_rows_grown edge ys ss j)
       ∙ sym (saturated_terms-append (left_terms e (recentred_terms_in c xs) (recentred_terms_in c ys))
       (right_terms e (tree_at c e.child.0) (map (λ m. m.entries) ss) (recentred_terms_in c ys)))
+
+-- parts of the decoration of one node
+abbrev pub right_seeds_row : List ℕ → List Multi → List (Recentred × ℕ)
+right_seeds_row n ms = map (right_seed n) (map (λ a. a.entries) ms)
+
+pub right_seeds_parts : (n : List ℕ) (a : Multi) (ms : List Multi) → right_seeds_row n (a ∷ ms) ≡ right_seed n a.entries ∷ [] ++ right_seeds_row n ms
+right_seeds_parts n a ms = refl

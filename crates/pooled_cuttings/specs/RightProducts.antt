@@ -3,6 +3,7 @@
 --   IsRightEdge c e == the edge e is of the types of the pool, has a small decoration, and leads to a tree that is there
 --   left_product e x y == of two pairs: the edge e is one of the left tree
 --   right_product e c s y == of a pair: the edge e, raised by s, leaves the right tree, with the whole tree c above it
+--   right_seed n a == of the tree with one node of decoration n: the part a stays in the left tree
 --   left_terms e xs ys == all products of the first kind
 --   right_terms e c ss ys == all products of the second kind with the shifts ss
 --   AreLeftFit c e xs ys, AreRightFit c e s ys == what the lines give together is small
@@ -16,7 +17,8 @@ use Rattle.degree_numbers.specs.declared.types.Types.{Types}
 use Rattle.degree_numbers.specs.declared.degree.Degree.{Degree}
 use Rattle.degree_numbers.specs.Degree.{degree_plus}
 use Rattle.degree_numbers.specs.Types.{size_in_units}
-use Rattle.plain_trees.specs.Plain.{Plain}
+use Rattle.degree_numbers.specs.Multi.{minus_of}
+use Rattle.plain_trees.specs.Plain.{Plain, bare}
 use Rattle.plain_trees.specs.Degree.{edge_degree_of, degree_of}
 use Rattle.plain_trees.specs.Coproducts.{Recentred, each_direction}
 use Rattle.tree_pool.specs.declared.node.EdgeTo.{EdgeTo}
@@ -42,6 +44,9 @@ left_product e x y = left_inside e.kind.0 e.p.entries x y
 
 abbrev pub right_product : EdgeTo → Plain → List ℕ → Recentred → Recentred
 right_product e c s y = right_outside s e.kind.0 e.p.entries c y
+
+abbrev pub right_seed : List ℕ → List ℕ → Recentred × ℕ
+right_seed n a = ((bare a, bare (minus_of n a)), 1)
 
 abbrev pub left_terms : EdgeTo → List (Recentred × ℕ) → List (Recentred × ℕ) → List (Recentred × ℕ)
 left_terms e xs ys = products left_factor (left_inside e.kind.0 e.p.entries) xs ys

@@ -16,6 +16,7 @@ mod made;
 mod outside;
 mod right;
 mod right_products;
+mod right_seeds;
 mod right_shifts;
 mod seeds;
 mod steps;

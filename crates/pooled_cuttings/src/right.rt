@@ -15,7 +15,9 @@ use crate::collecting::collect_recentred;
 use crate::keys::RightKey;
 use crate::left_products::push_left_rows;
 use crate::right_products::push_right_rows;
+use crate::right_seeds::push_right_seeds;
 use crate::right_shifts::right_shifts;
+use cutting_tables::parts_below;
 use degree_numbers::Multi;
 use exact_sums::Saturated;
 use std::alloc::Global;
@@ -32,7 +34,11 @@ pub fn right_lines_of_node(
     ensures table { IfOk result (λ ls. IsRightTable pool.new (bare n.now.entries) ls.items) }
     ensures grown { IsGrown pool.old pool.new }
 {
-    Err(PoolError::Memory)
+    pool.laws();
+    let parts = parts_below(alloc, n)?;
+    let mut lines = Vec::new(alloc);
+    push_right_seeds(pool, alloc, n, parts.as_slice(), &mut lines)?;
+    Ok(lines)
 }
 
 /// All products over an edge, of the left tree or as a branch of the right tree with each of some

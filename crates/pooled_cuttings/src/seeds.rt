@@ -72,7 +72,7 @@ fn seed_key(
 }
 
 /// What is left of a decoration when a part is taken.
-fn left_of(n: &Multi, a: &Multi) -> Multi
+pub(crate) fn left_of(n: &Multi, a: &Multi) -> Multi
     requires { IsAtMost a.now.entries n.now.entries }
     ensures { result.entries ≡ minus_of n.now.entries a.now.entries }
 {
