@@ -35,7 +35,7 @@ table_over-requires t c =
     let most = c.loop-i.invariant.most in
     let lt : j < length es = omega (arith, most, c.loop-i-test.true) in
     let below = below_at c.args.id.0 es j no_edge c.node.ensures.below lt in
-    (omega (arith, below), record { known = child_known p c.args.id.0 n es node q j g lt; fit = child_fit p c.args.id.0 n es node q j g lt })
+    (omega (arith, below), (child_known p c.args.id.0 n es node q j g lt, child_fit p c.args.id.0 n es node q j g lt))
 
 pub with_right_edge-requires-clause-tree : goal.with_right_edge-requires-clause-tree
 with_right_edge-requires-clause-tree t c =
@@ -85,7 +85,7 @@ with_right_edge-requires-clause-others t c =
     let h = c.in_ok-above.ensures.grown in
     let grown = grown_trans p q r g h in
     let one : j + 1 ≡ c.loop-i.i = omega (arith, c.loop-i-test.true) in
-    rw c.as_slice-2.ensures.value
+    rw c.as_slice-in-loop-i.ensures.value
     (table_behind p c.args.id.0 n es node q r c.loop-i.i j c.loop-i.table.items g h one c.loop-i.invariant.table)
 
 pub loop-i-preserved : goal.loop-i-preserved
