@@ -1,0 +1,12 @@
+use Rattle.std.proofs.Common.{◌≡◌, ◌++◌, drop}
+use Rattle.tree_pool.specs.Content.{IsGrown}
+use Rattle.pooled_cuttings.specs.Lines.{recentred_terms_in, AreRightLines}
+use Rattle.pooled_cuttings.proofs.RightLoops.{left_row}
+use Rattle.pooled_cuttings.proofs.left_products.push_left_row.Given as goal
+
+abbrev pub invariant-loop-y : goal.invariant-loop-y
+invariant-loop-y l = record {
+  grown : IsGrown l.fn.pool l.pool;
+  lines : AreRightLines l.pool l.lines.items;
+  terms : recentred_terms_in l.pool l.lines.items ++ left_row l.fn.pool l.edge l.x (drop l.y-index l.ys) ≡ recentred_terms_in l.fn.pool l.fn.lines.items ++ left_row l.fn.pool l.edge l.x l.ys;
+}

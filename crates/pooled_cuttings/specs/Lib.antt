@@ -1,0 +1,5 @@
+pub mod Groves
+pub mod Lines
+pub mod NodeTables
+pub mod Products
+pub mod RightProducts
