@@ -1,0 +1,102 @@
+-- The tree at the edges of a root from one on, in a pool and in one that has grown from it.
+use Rattle.std.proofs.Common.{◌≡◌, ℕ, zero, suc, ◌+◌, ◌≤◌, ◌<◌, pos, neg_ℤ, ◌≤ℤ◌, List, [], ◌∷◌, map, drop, length, get_or, refl, sym, ap, subst, ◌∙◌, arith}
+use Rattle.std.proofs.lemmas.Int.{ints}
+use Rattle.degree_numbers.specs.declared.types.Types.{Types}
+use Rattle.degree_numbers.specs.declared.multi.Multi.{Multi}
+use Rattle.degree_numbers.specs.Multi.{IsMultiIndex}
+use Rattle.plain_trees.specs.Plain.{Plain, bare, graft}
+use Rattle.plain_trees.specs.View.{Labelled, grafted}
+use Rattle.plain_trees.specs.Degree.{HasTypes}
+use Rattle.tree_pool.specs.Content.{Content, Holds, tree_at, edge_over, tree_over, AreBelow, IsGrown}
+use Rattle.tree_pool.specs.declared.node.EdgeTo.{EdgeTo}
+use Rattle.tree_pool.proofs.Trees.{AreBelow-le}
+use Rattle.tree_pool.proofs.Growth.{grown_at, grown_edges, grown_length}
+use Rattle.tree_pool.proofs.Walks.{no_edge, edges_left, below_at, below_left, tree_cut, at_holds}
+use Rattle.cutting_sizes.specs.Bounds.{IsBounded}
+use Rattle.cutting_sizes.proofs.Bounded.{bounded_parts}
+use Rattle.cutting_tables.proofs.LowBounds.{lowest_at}
+use Rattle.pooled_cuttings.specs.declared.TableBounds.{TableBounds}
+use Rattle.pooled_cuttings.specs.NodeTables.{IsOneMore}
+use Rattle.extraction_tables.specs.Asked.{AreBoundsOf}
+
+-- the trees at edges that were there stay
+pub over_grown : (c d : Content) (n : List ℕ) (es : List EdgeTo) → IsGrown c d → AreBelow (length c.trees) es →
+    tree_over d.trees n es ≡ tree_over c.trees n es
+over_grown c d n es g b = ap (grafted n) (grown_edges c d es g b)
+
+-- the root alone
+pub root_typed : (ty : Types) (n : List ℕ) (es : List Labelled) → HasTypes ty (grafted n es) → IsMultiIndex ty.dims n
+root_typed ty n [] h = h
+root_typed ty n (e ∷ es) h = root_typed ty n es h.2
+
+pub root_bounded : (n : List ℕ) (es : List Labelled) → IsBounded (grafted n es) → IsBounded (bare n)
+root_bounded n [] h = h
+root_bounded n (e ∷ es) h = root_bounded n es (bounded_parts e.kind.0 e.p.entries e.child (grafted n es) h).1
+
+-- from an edge on
+pub typed_from : (c : Content) (ty : Types) (n : List ℕ) (es : List EdgeTo) (j : ℕ) → HasTypes ty (tree_over c.trees n es) →
+    HasTypes ty (tree_over c.trees n (drop j es))
+typed_from c ty n es zero h = h
+typed_from c ty n [] (suc j) h = h
+typed_from c ty n (e ∷ es) (suc j) h = typed_from c ty n es j h.2
+
+pub bounded_from : (c : Content) (n : List ℕ) (es : List EdgeTo) (j : ℕ) → IsBounded (tree_over c.trees n es) →
+    IsBounded (tree_over c.trees n (drop j es))
+bounded_from c n es zero h = h
+bounded_from c n [] (suc j) h = h
+bounded_from c n (e ∷ es) (suc j) h =
+    bounded_from c n es j (bounded_parts e.kind.0 e.p.entries (tree_at c e.child.0) (tree_over c.trees n es) h).1
+
+pub bounded_child : (c : Content) (n : List ℕ) (es : List EdgeTo) (j : ℕ) → j < length es → IsBounded (tree_over c.trees n es) →
+    IsBounded (tree_at c (get_or es j no_edge).child.0)
+bounded_child c n es j lt h =
+    let e = get_or es j no_edge in
+    let here = rw (tree_cut c n es j no_edge lt) at (bounded_from c n es j h) in
+    (bounded_parts e.kind.0 e.p.entries (tree_at c e.child.0) (tree_over c.trees n (drop (j + 1) es)) here).0
+
+-- the trees above the edges of a root are asked for with the same bounds
+pub bounds_child : (c : Content) (b : TableBounds) (n : List ℕ) (es : List EdgeTo) (i j : ℕ) → AreBoundsOf c b i → Holds c i (tree_over c.trees n es) →
+    AreBelow i es → j < length es → AreBoundsOf c b (get_or es j no_edge).child.0
+bounds_child c b n es i j a h below lt =
+    let whole = at_holds c i (tree_over c.trees n es) h in
+    let known = a.known in
+    let child = below_at i es j no_edge below lt in
+    let enough = rw whole at a.ample in
+    let higher = lowest_at c.types c n es j lt in
+    record {
+      known = omega (arith, known, child);
+      bounded = bounded_child c n es j lt (rw whole at a.bounded);
+      bounds = a.bounds;
+      ample = omega (arith, ints, enough, higher);
+    }
+
+pub bounds_grown : (c d : Content) (b : TableBounds) (i : ℕ) → IsGrown c d → AreBoundsOf c b i → AreBoundsOf d b i
+bounds_grown c d b i g a =
+    let same = grown_at c d i g a.known in
+    let longer = grown_length c d g in
+    let known = a.known in
+    record {
+      known = omega (arith, known, longer);
+      bounded = rw same a.bounded;
+      bounds = rw g.types a.bounds;
+      ample = rw (same, g.types) a.ample;
+    }
+
+-- the edges from one on, in a pool that has grown
+pub tree_from : (c d : Content) (n : List ℕ) (es : List EdgeTo) (j : ℕ) → IsGrown c d → AreBelow (length c.trees) es → j < length es →
+    tree_over d.trees n (get_or es j no_edge ∷ drop (j + 1) es) ≡ tree_over c.trees n (drop j es)
+tree_from c d n es j g below lt =
+    rw (← edges_left es j no_edge lt) (over_grown c d n (drop j es) g (below_left (length c.trees) es j below))
+
+pub one_more_from : (c d : Content) (n : Multi) (es : List EdgeTo) (j : ℕ) → IsGrown c d → AreBelow (length c.trees) es → j < length es →
+    HasTypes c.types (tree_over c.trees n.entries es) → IsBounded (tree_over c.trees n.entries es) →
+    IsOneMore d (get_or es j no_edge) n (drop (j + 1) es)
+one_more_from c d n es j g below lt t b =
+    let there = tree_from c d n.entries es j g below lt in
+    let longer = AreBelow-le (length c.trees) (length d.trees) es (grown_length c d g) below in
+    let from = below_left (length d.trees) es j longer in
+    record {
+      known = rw (edges_left es j no_edge lt) at from;
+      types = rw (there, g.types) (typed_from c c.types n.entries es j t);
+      bounded = rw there (bounded_from c n.entries es j b);
+    }

@@ -1,0 +1,2 @@
+pub mod BoundsOfTrees
+pub mod EdgesFrom
