@@ -1,0 +1,4 @@
+pub mod Degrees
+pub mod Groves
+pub mod Means
+pub mod Rows
