@@ -1,5 +1,5 @@
 -- The tree at the edges of a root from one on, in a pool and in one that has grown from it.
-use Rattle.std.proofs.Common.{◌≡◌, ℕ, zero, suc, ◌+◌, ◌≤◌, ◌<◌, pos, neg_ℤ, ◌≤ℤ◌, List, [], ◌∷◌, map, drop, length, get_or, refl, sym, ap, subst, ◌∙◌, arith}
+use Rattle.std.proofs.Common.{◌≡◌, ℕ, zero, suc, ◌+◌, ◌-◌, ◌≤◌, ◌<◌, pos, neg_ℤ, ◌≤ℤ◌, List, [], ◌∷◌, map, take, drop, length, length-drop, get_or, refl, sym, ap, subst, ◌∙◌, arith}
 use Rattle.std.proofs.lemmas.Int.{ints}
 use Rattle.degree_numbers.specs.declared.types.Types.{Types}
 use Rattle.degree_numbers.specs.declared.multi.Multi.{Multi}
@@ -11,12 +11,13 @@ use Rattle.tree_pool.specs.Content.{Content, Holds, tree_at, edge_over, tree_ove
 use Rattle.tree_pool.specs.declared.node.EdgeTo.{EdgeTo}
 use Rattle.tree_pool.proofs.Trees.{AreBelow-le}
 use Rattle.tree_pool.proofs.Growth.{grown_at, grown_edges, grown_length}
-use Rattle.tree_pool.proofs.Walks.{no_edge, edges_left, below_at, below_left, tree_cut, at_holds}
+use Rattle.tree_pool.proofs.Walks.{no_edge, all_taken, edges_left, below_at, below_left, tree_cut, at_holds}
 use Rattle.cutting_sizes.specs.Bounds.{IsBounded}
+use Rattle.cutting_sizes.specs.Lows.{lowest}
 use Rattle.cutting_sizes.proofs.Bounded.{bounded_parts}
 use Rattle.cutting_tables.proofs.LowBounds.{lowest_at}
 use Rattle.pooled_cuttings.specs.declared.TableBounds.{TableBounds}
-use Rattle.pooled_cuttings.specs.NodeTables.{IsOneMore}
+use Rattle.pooled_cuttings.specs.NodeTables.{IsOneMore, tree_with}
 use Rattle.extraction_tables.specs.Asked.{AreBoundsOf}
 
 -- the trees at edges that were there stay
@@ -54,22 +55,11 @@ bounded_child c n es j lt h =
     let here = rw (tree_cut c n es j no_edge lt) at (bounded_from c n es j h) in
     (bounded_parts e.kind.0 e.p.entries (tree_at c e.child.0) (tree_over c.trees n (drop (j + 1) es)) here).0
 
--- the trees above the edges of a root are asked for with the same bounds
-pub bounds_child : (c : Content) (b : TableBounds) (n : List ℕ) (es : List EdgeTo) (i j : ℕ) → AreBoundsOf c b i → Holds c i (tree_over c.trees n es) →
-    AreBelow i es → j < length es → AreBoundsOf c b (get_or es j no_edge).child.0
-bounds_child c b n es i j a h below lt =
-    let whole = at_holds c i (tree_over c.trees n es) h in
-    let known = a.known in
-    let child = below_at i es j no_edge below lt in
-    let enough = rw whole at a.ample in
-    let higher = lowest_at c.types c n es j lt in
-    record {
-      known = omega (arith, known, child);
-      bounded = bounded_child c n es j lt (rw whole at a.bounded);
-      bounds = a.bounds;
-      ample = omega (arith, ints, enough, higher);
-    }
+-- the slice behind an edge
+pub behind : (es : List EdgeTo) (k : ℕ) → take (length es - k) (drop k es) ≡ drop k es
+behind es k = let left = length-drop k es in all_taken (drop k es) (length es - k) (omega (arith, left))
 
+-- what is known of a tree that is asked for stays
 pub bounds_grown : (c d : Content) (b : TableBounds) (i : ℕ) → IsGrown c d → AreBoundsOf c b i → AreBoundsOf d b i
 bounds_grown c d b i g a =
     let same = grown_at c d i g a.known in
@@ -86,17 +76,63 @@ bounds_grown c d b i g a =
 pub tree_from : (c d : Content) (n : List ℕ) (es : List EdgeTo) (j : ℕ) → IsGrown c d → AreBelow (length c.trees) es → j < length es →
     tree_over d.trees n (get_or es j no_edge ∷ drop (j + 1) es) ≡ tree_over c.trees n (drop j es)
 tree_from c d n es j g below lt =
-    rw (← edges_left es j no_edge lt) (over_grown c d n (drop j es) g (below_left (length c.trees) es j below))
+    ap (tree_over d.trees n) (sym (edges_left es j no_edge lt)) ∙ over_grown c d n (drop j es) g (below_left (length c.trees) es j below)
 
-pub one_more_from : (c d : Content) (n : Multi) (es : List EdgeTo) (j : ℕ) → IsGrown c d → AreBelow (length c.trees) es → j < length es →
-    HasTypes c.types (tree_over c.trees n.entries es) → IsBounded (tree_over c.trees n.entries es) →
-    IsOneMore d (get_or es j no_edge) n (drop (j + 1) es)
-one_more_from c d n es j g below lt t b =
-    let there = tree_from c d n.entries es j g below lt in
-    let longer = AreBelow-le (length c.trees) (length d.trees) es (grown_length c d g) below in
-    let from = below_left (length d.trees) es j longer in
+-- a tree of a pool that is asked for, with its root's decoration and edges
+pub record IsNodeOf (c : Content) (b : TableBounds) (id : ℕ) (n : Multi) (es : List EdgeTo) : Type 0 where
+  pub asked : AreBoundsOf c b id
+  pub tree : tree_at c id ≡ tree_over c.trees n.entries es
+  pub edges_below : AreBelow id es
+  pub edges_known : AreBelow (length c.trees) es
+  pub types : HasTypes c.types (tree_over c.trees n.entries es)
+  pub bounded : IsBounded (tree_over c.trees n.entries es)
+
+pub node_of : (p c : Content) (b : TableBounds) (id : ℕ) (n : Multi) (es : List EdgeTo) → p ≡ c → AreBoundsOf c b id →
+    Holds p id (tree_over p.trees n.entries es) → AreBelow id es → HasTypes p.types (tree_over p.trees n.entries es) → IsNodeOf c b id n es
+node_of p c b id n es same a h below t =
+    let holds = subst (λ (q : Content). Holds q id (tree_over q.trees n.entries es)) same h in
+    let whole = at_holds c id (tree_over c.trees n.entries es) holds in
+    let known = a.known in
     record {
-      known = rw (edges_left es j no_edge lt) at from;
-      types = rw (there, g.types) (typed_from c c.types n.entries es j t);
-      bounded = rw there (bounded_from c n.entries es j b);
+      asked = a;
+      tree = whole;
+      edges_below = below;
+      edges_known = AreBelow-le id (length c.trees) es (omega (arith, known)) below;
+      types = subst (λ (q : Content). HasTypes q.types (tree_over q.trees n.entries es)) same t;
+      bounded = subst (λ (u : Plain). IsBounded u) whole a.bounded;
     }
+
+-- the trees above its edges are asked for with the same bounds
+bounds_child : (c : Content) (b : TableBounds) (id : ℕ) (n : Multi) (es : List EdgeTo) (j : ℕ) → IsNodeOf c b id n es → j < length es →
+    AreBoundsOf c b (get_or es j no_edge).child.0
+bounds_child c b id n es j a lt =
+    let enough = subst (λ (u : Plain). neg_ℤ (pos b.excess) ≤ℤ lowest c.types u) a.tree a.asked.ample in
+    let higher = lowest_at c.types c n.entries es j lt in
+    record {
+      known = below_at (length c.trees) es j no_edge a.edges_known lt;
+      bounded = bounded_child c n.entries es j lt a.bounded;
+      bounds = a.asked.bounds;
+      ample = omega (arith, ints, enough, higher);
+    }
+
+pub child_asked : (c d : Content) (b : TableBounds) (id : ℕ) (n : Multi) (es : List EdgeTo) (j : ℕ) → IsGrown c d → IsNodeOf c b id n es → j < length es →
+    AreBoundsOf d b (get_or es j no_edge).child.0
+child_asked c d b id n es j g a lt = bounds_grown c d b (get_or es j no_edge).child.0 g (bounds_child c b id n es j a lt)
+
+pub one_more_at : (c d : Content) (b : TableBounds) (id : ℕ) (n : Multi) (es : List EdgeTo) (j : ℕ) → IsGrown c d → IsNodeOf c b id n es → j < length es →
+    IsOneMore d (get_or es j no_edge) n (take (length es - (j + 1)) (drop (j + 1) es))
+one_more_at c d b id n es j g a lt =
+    let e = get_or es j no_edge in
+    let there = tree_from c d n.entries es j g a.edges_known lt in
+    let longer = AreBelow-le (length c.trees) (length d.trees) es (grown_length c d g) a.edges_known in
+    let from = below_left (length d.trees) es j longer in
+    let whole : IsOneMore d e n (drop (j + 1) es) =
+        record {
+          known = subst (λ (fs : List EdgeTo). AreBelow (length d.trees) fs) (edges_left es j no_edge lt) from;
+          types =
+              subst (λ (ty : Types). HasTypes ty (tree_with d e n (drop (j + 1) es))) (sym g.types)
+              (subst (λ (u : Plain). HasTypes c.types u) (sym there) (typed_from c c.types n.entries es j a.types));
+          bounded = subst (λ (u : Plain). IsBounded u) (sym there) (bounded_from c n.entries es j a.bounded);
+        }
+    in
+    subst (λ (fs : List EdgeTo). IsOneMore d e n fs) (sym (behind es (j + 1))) whole
