@@ -1,5 +1,5 @@
 -- The bounds of a bounded tree.
-use Rattle.std.proofs.Common.{◌≡◌, ℕ, ℤ, suc, pos, neg_ℤ, ◌≤ℤ◌, ◌+◌, ◌*◌, ◌/◌, ◌≤◌, ◌<◌, length, unsigned_abs, to_z, of_z, w64, FitsSigned, ap, sym, subst, ◌∙◌, arith}
+use Rattle.std.proofs.Common.{◌≡◌, ℕ, ℤ, suc, pos, neg_ℤ, ◌≤ℤ◌, ◌+◌, ◌*◌, ◌/◌, ◌≤◌, ◌<◌, length, unsigned_abs, to_z, of_z, w64, FitsSigned, ap, ◌∙◌, arith}
 use Rattle.std.proofs.lemmas.Int.{ints, to_z-of_z}
 use Rattle.std.proofs.Math.Nat.{lt-mul-div-succ, div-le_of_le-mul}
 use Rattle.degree_numbers.specs.declared.types.Types.{Types}
@@ -15,7 +15,6 @@ use Rattle.cutting_sizes.proofs.Lows.{low_most, lowest_low}
 use Rattle.cutting_sizes.proofs.Sizes.{den_some}
 use Rattle.cutting_tables.specs.declared.lows.Lows.{Lows}
 use Rattle.cutting_tables.specs.PoolLows.{AreLows, AreWithin, most_low}
-use Rattle.pooled_cuttings.specs.declared.TableBounds.{TableBounds}
 use Rattle.extraction_tables.specs.Asked.{AreBoundsOf}
 
 -- the size of the lowest low

@@ -1,13 +1,13 @@
 -- The tree at the edges of a root from one on, in a pool and in one that has grown from it.
-use Rattle.std.proofs.Common.{◌≡◌, ℕ, zero, suc, ◌+◌, ◌-◌, ◌≤◌, ◌<◌, pos, neg_ℤ, ◌≤ℤ◌, List, [], ◌∷◌, map, take, drop, length, length-drop, get_or, refl, sym, ap, subst, ◌∙◌, arith}
+use Rattle.std.proofs.Common.{◌≡◌, ℕ, zero, suc, ◌+◌, ◌-◌, ◌<◌, pos, neg_ℤ, ◌≤ℤ◌, List, [], ◌∷◌, take, drop, length, length-drop, get_or, sym, ap, subst, ◌∙◌, arith}
 use Rattle.std.proofs.lemmas.Int.{ints}
 use Rattle.degree_numbers.specs.declared.types.Types.{Types}
 use Rattle.degree_numbers.specs.declared.multi.Multi.{Multi}
 use Rattle.degree_numbers.specs.Multi.{IsMultiIndex}
-use Rattle.plain_trees.specs.Plain.{Plain, bare, graft}
+use Rattle.plain_trees.specs.Plain.{Plain, bare}
 use Rattle.plain_trees.specs.View.{Labelled, grafted}
 use Rattle.plain_trees.specs.Degree.{HasTypes}
-use Rattle.tree_pool.specs.Content.{Content, Holds, tree_at, edge_over, tree_over, AreBelow, IsGrown}
+use Rattle.tree_pool.specs.Content.{Content, Holds, tree_at, tree_over, AreBelow, IsGrown}
 use Rattle.tree_pool.specs.declared.node.EdgeTo.{EdgeTo}
 use Rattle.tree_pool.proofs.Trees.{AreBelow-le}
 use Rattle.tree_pool.proofs.Growth.{grown_at, grown_edges, grown_length}
@@ -127,12 +127,12 @@ one_more_at c d b id n es j g a lt =
     let longer = AreBelow-le (length c.trees) (length d.trees) es (grown_length c d g) a.edges_known in
     let from = below_left (length d.trees) es j longer in
     let whole : IsOneMore d e n (drop (j + 1) es) =
-        record {
-          known = subst (λ (fs : List EdgeTo). AreBelow (length d.trees) fs) (edges_left es j no_edge lt) from;
-          types =
-              subst (λ (ty : Types). HasTypes ty (tree_with d e n (drop (j + 1) es))) (sym g.types)
-              (subst (λ (u : Plain). HasTypes c.types u) (sym there) (typed_from c c.types n.entries es j a.types));
-          bounded = subst (λ (u : Plain). IsBounded u) (sym there) (bounded_from c n.entries es j a.bounded);
-        }
+    record {
+      known = subst (λ (fs : List EdgeTo). AreBelow (length d.trees) fs) (edges_left es j no_edge lt) from;
+      types =
+          subst (λ (ty : Types). HasTypes ty (tree_with d e n (drop (j + 1) es))) (sym g.types)
+          (subst (λ (u : Plain). HasTypes c.types u) (sym there) (typed_from c c.types n.entries es j a.types));
+      bounded = subst (λ (u : Plain). IsBounded u) (sym there) (bounded_from c n.entries es j a.bounded);
+    }
     in
     subst (λ (fs : List EdgeTo). IsOneMore d e n fs) (sym (behind es (j + 1))) whole

@@ -4,15 +4,12 @@ use Rattle.degree_numbers.specs.declared.types.Types.{Types}
 use Rattle.degree_numbers.specs.declared.multi.Multi.{Multi}
 use Rattle.plain_trees.specs.Plain.{Plain}
 use Rattle.plain_trees.specs.Degree.{HasTypes}
-use Rattle.plain_trees.specs.Coproducts.{Extracted}
-use Rattle.tree_pool.specs.Content.{Content, Holds, tree_at, tree_over, AreBelow, IsGrown}
+use Rattle.tree_pool.specs.Content.{Content, tree_at, tree_over, AreBelow, IsGrown}
 use Rattle.tree_pool.specs.declared.node.EdgeTo.{EdgeTo}
 use Rattle.tree_pool.proofs.Trees.{AreBelow-le}
 use Rattle.tree_pool.proofs.Growth.{grown_at, grown_length, grown_trans}
-use Rattle.tree_pool.proofs.Walks.{no_edge, at_holds, below_left, edges_left}
-use Rattle.cutting_sizes.specs.Bounds.{IsBounded, most_shift}
-use Rattle.cutting_tables.specs.Tables.{closed_terms}
-use Rattle.cutting_tables.specs.Live.{AreSameExtracted, tables_within}
+use Rattle.tree_pool.proofs.Walks.{no_edge, below_left}
+use Rattle.cutting_sizes.specs.Bounds.{IsBounded}
 use Rattle.pooled_cuttings.specs.declared.TableBounds.{TableBounds}
 use Rattle.pooled_cuttings.specs.declared.NodeTables.{NodeTables}
 use Rattle.pooled_cuttings.specs.Groves.{GroveContent, IsGrove, IsGrownGrove}

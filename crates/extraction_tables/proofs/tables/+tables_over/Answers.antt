@@ -2,7 +2,7 @@ use Rattle.std.proofs.Common.{◌≡◌, ◌+◌, ◌-◌, ◌<◌, length, get_
 use Rattle.tree_pool.specs.Content.{edge_over}
 use Rattle.tree_pool.proofs.Growth.{grown_trans}
 use Rattle.tree_pool.proofs.Walks.{no_edge, below_at}
-use Rattle.extraction_tables.proofs.EdgesFrom.{root_typed, root_bounded, node_of, child_asked, one_more_at, bounds_grown}
+use Rattle.extraction_tables.proofs.EdgesFrom.{root_typed, root_bounded, node_of, child_asked, one_more_at}
 use Rattle.extraction_tables.proofs.Recursion.{tables_at, tables_left, tables_from, tables_whole}
 use Rattle.extraction_tables.proofs.tables.+tables_over.Goals as goal
 
