@@ -1,0 +1,132 @@
+//! Examples of the table of all cuttings of a tree of which all components are extracted, on the
+//! types of equations that files write down.
+#![tactic(auto)]
+
+ghost use Rattle.std.specs.Prelude.{◌≡◌, ◌<◌, length, IfSome};
+ghost use Rattle.degree_numbers.specs.Types.{AreTypes};
+ghost use Rattle.tree_pool.specs.Content.{tree_at, IsGrown};
+ghost use Rattle.tree_pool.specs.Forests.{numbers, AreKnown};
+ghost use Rattle.cutting_sizes.specs.Bounds.{IsBounded};
+
+use bumpalo::Bump;
+use degree_numbers::Types;
+use equation_file::read_equation;
+use exact_sums::Saturated;
+use extraction_tables::closed_table;
+use plain_trees::read_tree;
+use pooled_cuttings::{ExtractKey, Grove};
+use std::alloc::Global;
+use tree_pool::{Pool, TreeId};
+
+/// The number in a pool of the tree with this text.
+fn interned(alloc: Global, types: &Types, pool: &mut Pool<'_>, text: &[u8]) -> Option<TreeId>
+    requires accepted { AreTypes types.now }
+    requires types { pool.old.types ≡ types.now }
+    ensures grown { IsGrown pool.old pool.new }
+    ensures known { IfSome result (λ id. id.0 < length pool.new.trees) }
+    ensures bounded { IfSome result (λ id. IsBounded (tree_at pool.new id.0)) }
+{
+    let Ok(tree) = read_tree(alloc, types, text, 64) else {
+        return None;
+    };
+    let Ok(id) = pool.intern_tree(alloc, &tree) else {
+        return None;
+    };
+    Some(id)
+}
+
+/// The numbers of the trees with these texts.
+fn all_interned(
+    alloc: Global,
+    types: &Types,
+    pool: &mut Pool<'_>,
+    texts: &[&[u8]],
+) -> Option<Vec<TreeId>>
+    requires accepted { AreTypes types.now }
+    requires types { pool.old.types ≡ types.now }
+    ensures grown { IsGrown pool.old pool.new }
+    ensures known { IfSome result (λ ids. AreKnown pool.new (numbers ids.items)) }
+{
+    let mut ids = Vec::new(alloc);
+    for text in texts {
+        let id = interned(alloc, types, pool, text)?;
+        let Ok(()) = ids.push(id) else {
+            return None;
+        };
+    }
+    Some(ids)
+}
+
+/// The table of a tree has a line for a forest and a quotient: the number of its lines, and the
+/// coefficient of that line.
+#[derive(Clone, Copy, Debug, PartialEq, Eq)]
+pub struct TableEntry {
+    pub lines: usize,
+    pub coefficient: Option<Saturated>,
+}
+
+/// What the table of the tree with this text has for the forest and the quotient with these texts,
+/// on the types of the equation that a file writes down.
+pub fn table_entry(
+    alloc: Global,
+    file: &[u8],
+    tree: &[u8],
+    forest: &[&[u8]],
+    quotient: &[u8],
+) -> Option<TableEntry> {
+    let Ok(eq) = read_equation(alloc, file) else {
+        return None;
+    };
+    let arena = Bump::new(alloc);
+    let mut pool = Pool::new(alloc, &arena, &eq.types).ok()?;
+    let quotient = interned(alloc, &eq.types, &mut pool, quotient)?;
+    let ids = all_interned(alloc, &eq.types, &mut pool, forest)?;
+    let id = interned(alloc, &eq.types, &mut pool, tree)?;
+    let Ok(mut grove) = Grove::new(alloc, &arena, pool) else {
+        return None;
+    };
+    let forest = grove.forest(alloc, ids.as_slice()).ok()?;
+    let lines = closed_table(&mut grove, alloc, id).ok()?;
+    let key = ExtractKey { forest, quotient };
+    let line = lines.iter().find(|l| l.0 == key);
+    Some(TableEntry {
+        lines: lines.len(),
+        coefficient: line.map(|l| l.1),
+    })
+}
+
+#[cfg(test)]
+mod tests {
+    use super::*;
+
+    const KPZ: &[u8] = b"version = 1\nscaling = [2, 1]\n[[noise]]\nname = \"xi\"\ndegree = \"-3/2-k\"\n[[unknown]]\nname = \"u\"\ndegree = \"2\"\nregularity = \"1/4\"\nright = \"u'(0,1)^2+xi\"\n";
+
+    const TWO_NOISES: &[u8] = b"version = 1\nscaling = [2, 1, 1]\n[[noise]]\nname = \"xi\"\ndegree = \"-2-k\"\n[[noise]]\nname = \"eta\"\ndegree = \"-2-k\"\n[[unknown]]\nname = \"u\"\ndegree = \"2\"\nregularity = \"-1/2\"\nright = \"-u^3+xi+eta\"\n";
+
+    const WEAK_KERNEL: &[u8] = b"version = 1\nscaling = [1]\n[[noise]]\nname = \"xi\"\ndegree = \"-1/2\"\n[[unknown]]\nname = \"u\"\ndegree = \"1/10\"\nregularity = \"-1/2\"\nright = \"xi\"\n";
+
+    // The table has this many lines, with this coefficient for a forest and a quotient; `None` for
+    // one that is out of range.
+    struct Line<'a> {
+        forest: &'a [&'a [u8]],
+        quotient: &'a [u8],
+        coefficient: Option<u128>,
+    }
+
+    fn has(alloc: Global, file: &[u8], tree: &[u8], lines: usize, line: &Line<'_>) -> bool {
+        match table_entry(alloc, file, tree, line.forest, line.quotient) {
+            Some(entry) => match entry.coefficient {
+                Some(c) => entry.lines == lines && c.value() == line.coefficient,
+                None => false,
+            },
+            None => false,
+        }
+    }
+
+    #[test]
+    fn a_decorated_noise_has_three_terms(rt: HostRuntime) {
+        let tree = b"[X(0,1)*xi]".as_slice();
+        let whole = Line { forest: &[], quotient: tree, coefficient: Some(1) };
+        assert!(rt; has(rt.alloc(), KPZ, tree, 3, &whole));
+    }
+}
