@@ -99,34 +99,117 @@ pub fn table_entry(
 mod tests {
     use super::*;
 
-    const KPZ: &[u8] = b"version = 1\nscaling = [2, 1]\n[[noise]]\nname = \"xi\"\ndegree = \"-3/2-k\"\n[[unknown]]\nname = \"u\"\ndegree = \"2\"\nregularity = \"1/4\"\nright = \"u'(0,1)^2+xi\"\n";
+    const KPZ: &[u8] =
+        b"version = 1\nscaling = [2, 1]\n[[noise]]\nname = \"xi\"\ndegree = \"-3/2-k\"\n[[unknown]]\nname = \"u\"\ndegree = \"2\"\nregularity = \"1/4\"\nright = \"u'(0,1)^2+xi\"\n";
 
-    const TWO_NOISES: &[u8] = b"version = 1\nscaling = [2, 1, 1]\n[[noise]]\nname = \"xi\"\ndegree = \"-2-k\"\n[[noise]]\nname = \"eta\"\ndegree = \"-2-k\"\n[[unknown]]\nname = \"u\"\ndegree = \"2\"\nregularity = \"-1/2\"\nright = \"-u^3+xi+eta\"\n";
+    const TWO_NOISES: &[u8] =
+        b"version = 1\nscaling = [2, 1, 1]\n[[noise]]\nname = \"xi\"\ndegree = \"-2-k\"\n[[noise]]\nname = \"eta\"\ndegree = \"-2-k\"\n[[unknown]]\nname = \"u\"\ndegree = \"2\"\nregularity = \"-1/2\"\nright = \"-u^3+xi+eta\"\n";
 
-    const WEAK_KERNEL: &[u8] = b"version = 1\nscaling = [1]\n[[noise]]\nname = \"xi\"\ndegree = \"-1/2\"\n[[unknown]]\nname = \"u\"\ndegree = \"1/10\"\nregularity = \"-1/2\"\nright = \"xi\"\n";
+    const WEAK_KERNEL: &[u8] =
+        b"version = 1\nscaling = [1]\n[[noise]]\nname = \"xi\"\ndegree = \"-1/2\"\n[[unknown]]\nname = \"u\"\ndegree = \"1/10\"\nregularity = \"-1/2\"\nright = \"xi\"\n";
 
-    // The table has this many lines, with this coefficient for a forest and a quotient; `None` for
-    // one that is out of range.
-    struct Line<'a> {
+    // A line of a table: the coefficient of a forest and a quotient, `None` where it is out of range.
+    #[derive(Drop)]
+    struct Row<'a> {
         forest: &'a [&'a [u8]],
         quotient: &'a [u8],
-        coefficient: Option<u128>,
+        coefficient: Option<i128>,
     }
 
-    fn has(alloc: Global, file: &[u8], tree: &[u8], lines: usize, line: &Line<'_>) -> bool {
-        match table_entry(alloc, file, tree, line.forest, line.quotient) {
-            Some(entry) => match entry.coefficient {
-                Some(c) => entry.lines == lines && c.value() == line.coefficient,
-                None => false,
-            },
-            None => false,
+    fn exact_row<'a>(coefficient: i128, forest: &'a [&'a [u8]], quotient: &'a [u8]) -> Row<'a> {
+        Row {
+            forest,
+            quotient,
+            coefficient: Some(coefficient),
+        }
+    }
+
+    // Whether the table of the tree has as many lines, and this one among them.
+    fn has(alloc: Global, file: &[u8], tree: &[u8], lines: usize, row: &Row<'_>) -> bool {
+        match table_entry(alloc, file, tree, row.forest, row.quotient) {
+            Some(
+                TableEntry {
+                    lines: all,
+                    coefficient: Some(c),
+                },
+            ) => all == lines && c.value() == row.coefficient,
+            _ => false,
         }
     }
 
     #[test]
-    fn a_decorated_noise_has_three_terms(rt: HostRuntime) {
+    fn three_terms_of_a_decorated_noise(rt: HostRuntime) {
         let tree = b"[X(0,1)*xi]".as_slice();
-        let whole = Line { forest: &[], quotient: tree, coefficient: Some(1) };
-        assert!(rt; has(rt.alloc(), KPZ, tree, 3, &whole));
+        let whole = [tree];
+        let rows = [
+            exact_row(1, &[], tree),
+            exact_row(1, &[b"[xi]"], b"[X(0,1)]"),
+            exact_row(1, &whole, b"[]"),
+        ];
+        for r in &rows {
+            assert!(rt; has(rt.alloc(), KPZ, tree, 3, r));
+        }
+    }
+
+    #[test]
+    fn an_edge_that_leaves_a_component_is_raised(rt: HostRuntime) {
+        let tree = b"[xi*xi]".as_slice();
+        let whole = [tree];
+        let rows = [
+            exact_row(1, &[], tree),
+            exact_row(2, &[b"[xi]"], b"[xi]"),
+            exact_row(2, &[b"[X(0,1)*xi]"], b"[xi'(0,1)]"),
+            exact_row(1, &whole, b"[]"),
+        ];
+        for r in &rows {
+            assert!(rt; has(rt.alloc(), KPZ, tree, 4, r));
+        }
+    }
+
+    #[test]
+    fn a_planted_tree_is_not_extracted(rt: HostRuntime) {
+        let tree = b"[u'(0,1)[u'(0,1)[xi]*u'(0,1)[xi]]]".as_slice();
+        let rows = [
+            exact_row(1, &[], tree),
+            exact_row(2, &[b"[xi]"], b"[u'(0,1)[u'(0,1)[]*u'(0,1)[xi]]]"),
+            exact_row(1, &[b"[u'(0,1)[xi]*u'(0,1)[xi]]"], b"[u'(0,1)[]]"),
+            exact_row(1, &[b"[xi]", b"[xi]"], b"[u'(0,1)[u'(0,1)[]*u'(0,1)[]]]"),
+        ];
+        for r in &rows {
+            assert!(rt; has(rt.alloc(), KPZ, tree, 4, r));
+        }
+    }
+
+    #[test]
+    fn five_terms_of_two_noises(rt: HostRuntime) {
+        let tree = b"[u[xi]*u[eta]]".as_slice();
+        let whole = [tree];
+        let rows = [
+            exact_row(1, &[], tree),
+            exact_row(1, &[b"[xi]"], b"[u[]*u[eta]]"),
+            exact_row(1, &[b"[eta]"], b"[u[]*u[xi]]"),
+            exact_row(1, &whole, b"[]"),
+            exact_row(1, &[b"[xi]", b"[eta]"], b"[u[]*u[]]"),
+        ];
+        for r in &rows {
+            assert!(rt; has(rt.alloc(), TWO_NOISES, tree, 5, r));
+        }
+    }
+
+    // 64! / 16!^4
+    const MULTINOMIAL: i128 = 662122768410971464603908403461821400;
+
+    #[test]
+    fn coefficients_are_exact_or_out_of_range(rt: HostRuntime) {
+        let tree = b"[X(16)*xi*u[X(16)*u[X(16)*u[X(16)]]]]".as_slice();
+        let most = exact_row(MULTINOMIAL, &[b"[xi*u[u[u[]]]]"], b"[X(64)]");
+        assert!(rt; has(rt.alloc(), WEAK_KERNEL, tree, 5, &most));
+        let tree = b"[X(12)*xi*u[X(13)*u[X(13)*u[X(13)*u[X(13)]]]]]".as_slice();
+        let past = Row {
+            forest: &[b"[xi*u[u[u[u[]]]]]"],
+            quotient: b"[X(64)]",
+            coefficient: None,
+        };
+        assert!(rt; has(rt.alloc(), WEAK_KERNEL, tree, 6, &past));
     }
 }
