@@ -105,6 +105,9 @@ mod tests {
     const TWO_NOISES: &[u8] =
         b"version = 1\nscaling = [2, 1, 1]\n[[noise]]\nname = \"xi\"\ndegree = \"-2-k\"\n[[noise]]\nname = \"eta\"\ndegree = \"-2-k\"\n[[unknown]]\nname = \"u\"\ndegree = \"2\"\nregularity = \"-1/2\"\nright = \"-u^3+xi+eta\"\n";
 
+    const PHI4: &[u8] =
+        b"version = 1\nscaling = [2, 1, 1, 1]\n[[noise]]\nname = \"xi\"\ndegree = \"-5/2-k\"\n[[unknown]]\nname = \"u\"\ndegree = \"2\"\nregularity = \"-3/4\"\nright = \"-u^3+xi\"\n";
+
     const WEAK_KERNEL: &[u8] =
         b"version = 1\nscaling = [1]\n[[noise]]\nname = \"xi\"\ndegree = \"-1/2\"\n[[unknown]]\nname = \"u\"\ndegree = \"1/10\"\nregularity = \"-1/2\"\nright = \"xi\"\n";
 
@@ -194,6 +197,25 @@ mod tests {
         for r in &rows {
             assert!(rt; has(rt.alloc(), TWO_NOISES, tree, 5, r));
         }
+    }
+
+    #[test]
+    fn raised_edges_in_three_dimensions(rt: HostRuntime) {
+        let tree = b"[u[xi]*u[u[xi]*u[xi]*u[xi]]]".as_slice();
+        let rows = [
+            exact_row(3, &[b"[u[xi]*u[xi]]"], b"[u[xi]*u[u[xi]]]"),
+            exact_row(
+                3,
+                &[b"[X(0,0,0,1)*u[xi]*u[xi]]"],
+                b"[u[xi]*u[u'(0,0,0,1)[xi]]]",
+            ),
+        ];
+        for r in &rows {
+            assert!(rt; has(rt.alloc(), PHI4, tree, 27, r));
+        }
+        let tree = b"[u[xi]*u[xi]*u[u[xi]*u[xi]]]";
+        let noises = exact_row(4, &[b"[xi]", b"[xi]"], b"[u[]*u[xi]*u[u[]*u[xi]]]");
+        assert!(rt; has(rt.alloc(), PHI4, tree, 29, &noises));
     }
 
     // 64! / 16!^4
