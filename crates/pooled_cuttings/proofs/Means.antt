@@ -10,6 +10,9 @@ use Rattle.cutting_tables.specs.Keys.{Opened}
 use Rattle.pooled_cuttings.specs.declared.keys.OpenKey.{OpenKey}
 use Rattle.pooled_cuttings.specs.declared.keys.ExtractKey.{ExtractKey}
 use Rattle.pooled_cuttings.specs.declared.keys.RightKey.{RightKey}
+use Rattle.pooled_cuttings.specs.declared.tables.TableBounds.{TableBounds}
+use Rattle.pooled_cuttings.specs.declared.tables.NodeTables.{NodeTables}
+use Rattle.pooled_cuttings.specs.NodeTables.{AreTables, IsRightTable}
 use Rattle.pooled_cuttings.specs.Groves.{GroveContent, IsGrove, IsGrownGrove, forest_in}
 use Rattle.pooled_cuttings.specs.Lines.{opened_in, extracted_in, recentred_in, opened_terms_in, extracted_terms_in, recentred_terms_in, IsOpenKey, IsExtractKey, IsRightKey, IsOpenLine, IsExtractLine, IsRightLine, AreOpenLines, AreExtractLines, AreRightLines}
 use Rattle.pooled_cuttings.proofs.Groves.{more_trees, more_forests, tree_grown, forest_grown}
@@ -61,13 +64,13 @@ recentred_grown c d k a i =
     ∙ ap (pair_of (tree_at c k.left.0)) (grown_at c d k.right.0 a i.right)
 
 pub open_line_grown : (g h : GroveContent) (l : OpenKey × ℕ) → IsGrownGrove g h → IsOpenLine g l → IsOpenLine h l
-open_line_grown g h l a i = (open_key_grown g h l.0 a i.0, i.1)
+open_line_grown g h l a i = (open_key_grown g h l.0 a i.0, i.1, i.2)
 
 pub extract_line_grown : (g h : GroveContent) (l : ExtractKey × ℕ) → IsGrownGrove g h → IsExtractLine g l → IsExtractLine h l
-extract_line_grown g h l a i = (extract_key_grown g h l.0 a i.0, i.1)
+extract_line_grown g h l a i = (extract_key_grown g h l.0 a i.0, i.1, i.2)
 
 pub right_line_grown : (c d : Content) (l : RightKey × ℕ) → IsGrown c d → IsRightLine c l → IsRightLine d l
-right_line_grown c d l a i = (right_key_grown c d l.0 a i.0, i.1)
+right_line_grown c d l a i = (right_key_grown c d l.0 a i.0, i.1, i.2)
 
 pub open_lines_grown : (g h : GroveContent) (ls : List (OpenKey × ℕ)) → IsGrownGrove g h → AreOpenLines g ls → AreOpenLines h ls
 open_lines_grown g h [] a i = tt
@@ -102,3 +105,21 @@ right_terms_grown c d ls a i = rekeyed_same (recentred_in d) (recentred_in c) (I
 pub rekeyed-append : {K J : Type 0} (f : K → J) (xs ys : List (K × ℕ)) → rekeyed f (xs ++ ys) ≡ rekeyed f xs ++ rekeyed f ys
 rekeyed-append f [] ys = refl
 rekeyed-append {K} {J} f (x ∷ xs) ys = ap (λ (ts : List (J × ℕ)). pair_of (f x.0) x.1 ∷ ts) (rekeyed-append f xs ys)
+
+-- tables stay those of their tree
+pub tables_grown : (g h : GroveContent) (b : TableBounds) (t : Plain) (x : NodeTables) → IsGrove g → IsGrownGrove g h → AreTables g b t x → AreTables h b t x
+tables_grown g h b t x is a i =
+    let same = extract_terms_grown g h x.idle.items is a i.idle_lines in
+    let open_same = open_terms_grown g h x.touched.items is a i.touched_lines in
+    record {
+      lows = rw a.pool.types i.lows;
+      idle_lines = extract_lines_grown g h x.idle.items a i.idle_lines;
+      idle = rw (same, a.pool.types) i.idle;
+      touched_lines = open_lines_grown g h x.touched.items a i.touched_lines;
+      touched = rw (open_same, a.pool.types) i.touched;
+    }
+
+pub right_table_grown : (c d : Content) (t : Plain) (ls : List (RightKey × ℕ)) → IsGrown c d → IsRightTable c t ls → IsRightTable d t ls
+right_table_grown c d t ls a i =
+    let same = right_terms_grown c d ls a i.lines in
+    record { lines = right_lines_grown c d ls a i.lines; sums = rw (same, a.types) i.sums }

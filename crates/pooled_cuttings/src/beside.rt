@@ -8,6 +8,7 @@ ghost use Rattle.pooled_cuttings.specs.Lines.{extracted_in, extracted_terms_in, 
 ghost use Rattle.pooled_cuttings.specs.Products.{beside_term, IsBesideFit, AreBesideFit};
 
 use crate::grove::Grove;
+use crate::lines::push_line;
 use crate::keys::ExtractKey;
 use crate::steps::EdgeStep;
 use exact_sums::Saturated;
@@ -61,7 +62,7 @@ fn push_beside(
 {
     grove.laws();
     let key = beside_key(grove, alloc, step, &x.0, &y.0)?;
-    lines.push((key, x.1.times(y.1)))?;
+    push_line(lines, (key, x.1.times(y.1)))?;
     Ok(())
 }
 

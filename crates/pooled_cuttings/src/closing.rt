@@ -11,12 +11,12 @@ ghost use Rattle.pooled_cuttings.specs.Groves.{IsGrownGrove};
 ghost use Rattle.pooled_cuttings.specs.Lines.{opened_in, opened_terms_in, extracted_in, extracted_terms_in, IsOpenKey, IsExtractKey, IsOpenLine, AreOpenLines, AreExtractLines};
 
 use crate::grove::Grove;
+use crate::lines::push_line;
 use crate::keys::{ExtractKey, OpenKey};
 use degree_numbers::{Degree, Multi, Types};
 use exact_sums::Saturated;
 use plain_trees::is_kernel_type;
 use std::alloc::Global;
-use std::cmp::Ordering;
 use tree_pool::{EdgeTo, Pool, PoolError, TreeId};
 
 /// Whether the tree with this decoration and these edges at its root is planted.
@@ -37,10 +37,13 @@ fn is_finished(pool: &Pool<'_>, part: TreeId) -> bool
         && is_extracted pool.now.types (tree_at pool.now part.0) }
 {
     let (n, edges) = pool.node(part);
-    let zero = Degree { a: 0, b: 0 };
-    !edges.is_empty()
-        && !is_planted(pool.types(), &n, edges)
-        && pool.degree(part).order(&zero) == Ordering::Less
+    if edges.is_empty() {
+        return false;
+    }
+    if is_planted(pool.types(), &n, edges) {
+        return false;
+    }
+    pool.degree(part).order(&Degree { a: 0, b: 0 }).is_lt()
 }
 
 /// What an open key gives when the component of the root is finished.
@@ -81,7 +84,7 @@ fn push_closed(
     grove.laws();
     if is_finished(grove.pool(), x.0.part) {
         let key = closed_key(grove, alloc, &x.0)?;
-        lines.push((key, x.1))?;
+        push_line(lines, (key, x.1))?;
     }
     Ok(())
 }

@@ -50,7 +50,7 @@ impl<'a> Grove<'a> {
     /// A grove with the trees of a pool and no forest. Its forests will stand in the arena. Fails
     /// only for want of memory; the pool is then given up.
     pub fn new(alloc: Global, arena: &'a Bump, pool: Pool<'a>) -> Result<Grove<'a>, PoolError>
-        ensures { IfOk result (λ g. g ≡ record { pool = pool; forests = [] }) }
+        ensures { IfOk result (λ g. g ≡ record { pool = pool.entry; forests = [] }) }
     {
         let forests = ForestPool::new(alloc, arena)?;
         Ok(Grove { pool, forests })
@@ -172,6 +172,7 @@ impl<'a> Grove<'a> {
             (canon_forest (forest_in self.old f.0 ++ forest_in self.old g.0))) }
         ensures grown { IsGrownGrove self.old self.new }
     {
+        self.laws();
         self.forests.join(alloc, &self.pool, f, g)
     }
 
@@ -188,6 +189,7 @@ impl<'a> Grove<'a> {
             (with_tree (tree_at self.old.pool part.0) (forest_in self.old above.0))) }
         ensures grown { IsGrownGrove self.old self.new }
     {
+        self.laws();
         let all = with_id(alloc, part, self.forests.trees(above))?;
         self.forest(alloc, all.as_slice())
     }

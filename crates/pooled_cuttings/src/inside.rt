@@ -11,6 +11,7 @@ ghost use Rattle.pooled_cuttings.specs.Lines.{opened_in, opened_terms_in, IsOpen
 ghost use Rattle.pooled_cuttings.specs.Products.{kept_terms, inside_term, IsOpenFit, IsEdgeStep, IsInsideFit, AreInsideFit};
 
 use crate::grove::Grove;
+use crate::lines::push_line;
 use crate::keys::OpenKey;
 use crate::steps::{EdgeStep, is_low_over};
 use cutting_tables::choose_of;
@@ -93,7 +94,7 @@ fn push_inside(
     if is_low_over(grove.pool(), step, x.0.part, y.0.part) {
         let coefficient = inside_coefficient(grove, x, y);
         let key = inside_key(grove, alloc, step, &x.0, &y.0)?;
-        lines.push((key, coefficient))?;
+        push_line(lines, (key, coefficient))?;
     }
     Ok(())
 }

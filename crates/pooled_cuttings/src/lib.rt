@@ -3,15 +3,18 @@
 #![tactic(auto)]
 
 mod beside;
+mod branches;
 mod closing;
 mod collecting;
 mod grove;
 mod inside;
 mod keys;
 mod laws;
+mod lines;
 mod made;
 mod outside;
 mod right;
+
 mod steps;
 mod tables;
 

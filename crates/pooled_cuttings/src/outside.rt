@@ -11,6 +11,7 @@ ghost use Rattle.pooled_cuttings.specs.Lines.{opened_in, extracted_in, opened_te
 ghost use Rattle.pooled_cuttings.specs.Products.{kept_terms, outside_term, IsOpenFit, IsEdgeStep, IsOutsideFit, AreOutsideFit};
 
 use crate::grove::Grove;
+use crate::lines::push_line;
 use crate::keys::{ExtractKey, OpenKey};
 use crate::steps::{EdgeStep, is_low_raised};
 use cutting_tables::choose_of;
@@ -99,7 +100,7 @@ fn push_outside(
     if is_low_raised(grove.pool(), step, s, y.0.part) {
         let coefficient = outside_coefficient(grove, s, x, y);
         let key = outside_key(grove, alloc, step, s, &x.0, &y.0)?;
-        lines.push((key, coefficient))?;
+        push_line(lines, (key, coefficient))?;
     }
     Ok(())
 }
