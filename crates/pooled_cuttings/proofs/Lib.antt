@@ -10,6 +10,7 @@ pub mod Means
 pub mod Members
 pub mod Parts
 pub mod ProductRows
+pub mod RightKeys
 pub mod Rows
 pub mod SameKeys
 pub mod SameSums

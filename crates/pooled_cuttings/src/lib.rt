@@ -14,6 +14,7 @@ mod lines;
 mod made;
 mod outside;
 mod right;
+mod right_products;
 
 mod seeds;
 mod steps;
