@@ -1,6 +1,5 @@
 -- Degrees of the components that products make.
-use Rattle.std.proofs.Common.{◌≡◌, ℕ, ◌+◌, ◌*◌, ◌<◌, ◌≤◌, ℤ, pos, ◌+ℤ◌, ◌≤ℤ◌, ◌<ℤ◌, Bool, true, false, not, List, [], length, sum, refl, sym, ap, ◌∙◌, arith, FitsSigned, w64, unsigned_abs, slice_get, Some, Ordering, Less, Equal, Greater}
-use Rattle.std.specs.List.{AllByRecursion}
+use Rattle.std.proofs.Common.{◌≡◌, ℕ, ◌*◌, ◌<◌, ◌≤◌, ℤ, ◌≤ℤ◌, ◌<ℤ◌, Bool, true, false, not, List, [], length, sum, refl, sym, ap, ◌∙◌, arith, unsigned_abs, Ordering, Less, Equal, Greater}
 use Rattle.std.specs.Ordering.{int_cmp, is_gt, MatchOrdering}
 use Rattle.std.proofs.lemmas.Cmp.{int_ranked}
 use Rattle.std.proofs.lemmas.Int.{ints}
@@ -11,9 +10,9 @@ use Rattle.degree_numbers.specs.Degree.{IsWithin}
 use Rattle.degree_numbers.specs.Types.{AreTypes, size_in_units}
 use Rattle.degree_numbers.specs.Multi.{scaled_size}
 use Rattle.degree_numbers.proofs.ScaledSizes.{scaled_size_most}
-use Rattle.plain_trees.specs.Plain.{Plain, bare, graft}
-use Rattle.plain_trees.specs.Degree.{degree_of, edge_degree_of}
-use Rattle.plain_trees.proofs.DegreeBounds.{units_most, scaling_most, small_a, small_edge_a}
+use Rattle.plain_trees.specs.Plain.{Plain, bare}
+use Rattle.plain_trees.specs.Degree.{degree_of}
+use Rattle.plain_trees.proofs.DegreeBounds.{units_most, scaling_most, small_a}
 use Rattle.tree_pool.specs.Content.{Content, tree_at, IsPooled}
 use Rattle.pooled_cuttings.specs.Products.{is_low}
 

@@ -1,15 +1,13 @@
 -- One more edge: lines with the sums of the tables of two trees may be put together.
-use Rattle.std.proofs.Common.{◌≡◌, ℕ, suc, ◌+◌, ◌*◌, ◌<◌, ◌≤◌, ℤ, pos, neg_ℤ, ◌+ℤ◌, ◌≤ℤ◌, Bool, true, false, cond, not, List, [], ◌∷◌, ◌++◌, map, flat_map, filter, length, sum, refl, sym, ap, ◌∙◌, arith, subst, unsigned_abs}
+use Rattle.std.proofs.Common.{◌≡◌, ℕ, ◌*◌, ◌<◌, ◌≤◌, ℤ, pos, neg_ℤ, ◌+ℤ◌, ◌≤ℤ◌, Bool, true, false, cond, List, [], ◌∷◌, ◌++◌, map, filter, length, sum, refl, sym, ap, ◌∙◌, arith, subst, unsigned_abs}
 use Rattle.std.specs.List.{AllByRecursion}
 use Rattle.std.proofs.lemmas.Int.{ints}
-use Rattle.std.specs.Ordering.{int_cmp, is_gt}
-use Rattle.exact_sums.specs.Saturating.{overflow, saturated}
+use Rattle.exact_sums.specs.Saturating.{saturated}
 use Rattle.exact_sums.proofs.KeyedLaws.{saturated_sums}
 use Rattle.exact_sums.specs.Keyed.{rekeyed, same_by, sum_at}
 use Rattle.degree_numbers.specs.declared.types.Types.{Types}
 use Rattle.degree_numbers.specs.declared.multi.Multi.{Multi}
 use Rattle.degree_numbers.specs.Types.{AreTypes}
-use Rattle.degree_numbers.specs.Multi.{IsMultiIndex}
 use Rattle.degree_numbers.specs.declared.types.TypeId.{TypeId}
 use Rattle.tree_pool.specs.Content.{tree_at, tree_over}
 use Rattle.tree_pool.specs.declared.node.EdgeTo.{EdgeTo}
@@ -22,7 +20,7 @@ use Rattle.plain_trees.specs.Coproducts.{Extracted, each_direction, extracted_or
 use Rattle.cutting_sizes.specs.Bounds.{IsBounded, most_shift}
 use Rattle.cutting_sizes.specs.Lows.{low, lowest}
 use Rattle.cutting_sizes.proofs.Made.{IsBelow, below_is}
-use Rattle.cutting_tables.specs.Keys.{Opened, inside, outside, beside, closes, closing, opened_order}
+use Rattle.cutting_tables.specs.Keys.{Opened, inside, outside, closes, closing, opened_order}
 use Rattle.cutting_tables.specs.Tables.{closed_terms, idle_branch, touched_branch, seeds}
 use Rattle.cutting_tables.specs.Live.{AreSameOpened, AreSameExtracted, is_live, live_terms, tables_within, IsLiveTable}
 use Rattle.cutting_tables.proofs.Closing.{touched_step_types, idle_step, closed_step}
@@ -36,8 +34,8 @@ use Rattle.pooled_cuttings.specs.declared.tables.TableBounds.{TableBounds}
 use Rattle.pooled_cuttings.specs.declared.tables.NodeTables.{NodeTables}
 use Rattle.pooled_cuttings.specs.NodeTables.{AreTables, IsTableBounds, IsOneMore}
 use Rattle.pooled_cuttings.proofs.Means.{tables_grown, extract_lines_grown, extract_terms_grown}
-use Rattle.pooled_cuttings.specs.Lines.{opened_in, extracted_in, opened_terms_in, extracted_terms_in, AreOpenLines, AreExtractLines, IsOpenLine, IsExtractLine}
-use Rattle.pooled_cuttings.specs.Products.{is_low, low_terms, kept_terms, touched_products, CanHold, IsEdgeStep, AreInsideFit, AreOutsideFit, AreBesideFit}
+use Rattle.pooled_cuttings.specs.Lines.{opened_in, extracted_in, opened_terms_in, extracted_terms_in, AreOpenLines, AreExtractLines}
+use Rattle.pooled_cuttings.specs.Products.{is_low, low_terms, kept_terms, CanHold, IsEdgeStep, AreInsideFit, AreOutsideFit, AreBesideFit}
 use Rattle.pooled_cuttings.proofs.Members.{all_more, all_unmapped}
 use Rattle.pooled_cuttings.proofs.Fitting.{IsOpenOf, IsIdleOf, IsClosedOf, open_lines, idle_lines, closed_lines, open_fit, idle_fit, inside_of, outside_of, beside_of, more_shifts, shift_sum}
 
@@ -119,7 +117,7 @@ module _ (g : GroveContent) (types : AreTypes g.pool.types) (e : EdgeStep) (c t 
       all_more (λ x. IsClosedOf ty c (extracted_in g x.0)) _ xs
       (λ x p. all_more (λ y. IsIdleOf ty t (extracted_in g y.0)) _ ys
       (λ y q. let z = beside_of ty e.kind.0 e.p.entries c t (extracted_in g x.0) (extracted_in g y.0) p q in
-        subst (CanHold ty) z.2 (idle_fit ty types whole typed bounded z.0 z.1)) of_ys) of_xs
+      subst (CanHold ty) z.2 (idle_fit ty types whole typed bounded z.0 z.1)) of_ys) of_xs
 
 pub small_shifts : (d m : ℕ) (p : List ℕ) (ss : List Multi) → length p ≡ 5 → m ≤ most_shift → map (λ s. s.entries) ss ≡ shifts (each_direction d m) p →
     AllByRecursion (λ s. sum s.entries ≤ 8192) ss

@@ -1,7 +1,6 @@
 -- How a grove grows, and what stays.
-use Rattle.std.proofs.Common.{◌≡◌, ℕ, ◌+◌, ◌<◌, ◌≤◌, List, [], ◌∷◌, ◌++◌, map, length, refl, sym, ap, ◌∙◌, arith, append_assoc, append-nil, length-append, subst, inl, inr, Result, Ok, Err}
+use Rattle.std.proofs.Common.{◌≡◌, ℕ, ◌<◌, ◌≤◌, List, [], ◌∷◌, ◌++◌, length, refl, sym, ap, ◌∙◌, arith, append_assoc, append-nil, length-append, subst, inl, inr, Result, Ok, Err}
 use Rattle.std.specs.Prelude.{IfOk, OnErr}
-use Rattle.std.specs.List.{AllByRecursion}
 use Rattle.std.proofs.Math.ListN.{get_or-append}
 use Rattle.plain_trees.specs.Plain.{Plain, bare}
 use Rattle.tree_pool.specs.Content.{Content, tree_at, trees_at, Holds, IsGrown, IsPooled}
@@ -10,7 +9,6 @@ use Rattle.tree_pool.specs.declared.forest.ForestId.{ForestId}
 use Rattle.tree_pool.specs.declared.error.PoolError.{PoolError}
 use Rattle.tree_pool.proofs.Growth.{grown_refl, grown_trans, grown_length, grown_at, grown_holds}
 use Rattle.tree_pool.proofs.Ids.{known_forest, known_append}
-use Rattle.std.specs.List.Sorted.{IsPermutation}
 use Rattle.std.proofs.lemmas.List.{map-append}
 use Rattle.std.proofs.lemmas.List.Sorted.{IsPermutation-refl}
 use Rattle.std.proofs.lemmas.Option.{slice_get-get_or}
@@ -31,7 +29,7 @@ grove_trans f g h a b = record {
   forests = (
     a.forests.0 ++ b.forests.0,
     b.forests.1 ∙ ap (λ (fs : List (List ℕ)). fs ++ b.forests.0) a.forests.1
-    ∙ append_assoc f.forests a.forests.0 b.forests.0,
+        ∙ append_assoc f.forests a.forests.0 b.forests.0,
   );
 }
 

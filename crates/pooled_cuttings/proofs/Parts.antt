@@ -1,10 +1,10 @@
 -- The parts of a decoration.
-use Rattle.std.proofs.Common.{◌≡◌, ℕ, zero, suc, ◌+◌, ◌-◌, ◌<◌, ◌≤◌, List, [], ◌∷◌, map, length, sum, slice_index, sym, arith, subst}
+use Rattle.std.proofs.Common.{◌≡◌, ℕ, zero, suc, ◌+◌, ◌-◌, ◌≤◌, List, [], ◌∷◌, map, sum, slice_index, sym, arith, subst}
 use Rattle.std.specs.List.{AllByRecursion}
 use Rattle.std.proofs.lemmas.List.Sums.{sum_by_from}
 use Rattle.degree_numbers.specs.declared.types.Types.{Types}
 use Rattle.degree_numbers.specs.declared.multi.Multi.{Multi}
-use Rattle.degree_numbers.specs.Multi.{minus_of, IsAtMost, IsMultiIndex}
+use Rattle.degree_numbers.specs.Multi.{minus_of, IsMultiIndex}
 use Rattle.plain_trees.specs.Multinomials.{below}
 use Rattle.cutting_sizes.proofs.Made.{IsBelow, below_is}
 use Rattle.cutting_sizes.proofs.Multiindices.{below-multi, minus-multi}

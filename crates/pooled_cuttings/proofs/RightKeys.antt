@@ -1,12 +1,9 @@
 -- Keys of recentring that are made of others, and lines of them behind others.
-use Rattle.std.proofs.Common.{◌≡◌, ℕ, ◌+◌, ◌*◌, ◌<◌, ◌≤◌, List, [], ◌∷◌, ◌++◌, map, flat_map, length, sum, refl, sym, ap, ◌∙◌, arith, subst}
-use Rattle.std.specs.List.{AllByRecursion}
+use Rattle.std.proofs.Common.{◌≡◌, ℕ, ◌*◌, ◌<◌, List, [], ◌∷◌, ◌++◌, length, sym, ap, ◌∙◌, arith, subst}
 use Rattle.std.proofs.lemmas.Option.{slice_get_within}
-use Rattle.exact_sums.specs.Saturating.{overflow, saturated, saturating_times}
-use Rattle.exact_sums.specs.Keyed.{rekeyed, saturated_terms, scaled, products, products_with}
+use Rattle.exact_sums.specs.Saturating.{saturated, saturating_times}
+use Rattle.exact_sums.specs.Keyed.{saturated_terms}
 use Rattle.exact_sums.proofs.SaturatingLaws.{saturated_mul_left}
-use Rattle.degree_numbers.specs.declared.types.Types.{Types}
-use Rattle.degree_numbers.specs.declared.multi.Multi.{Multi}
 use Rattle.degree_numbers.specs.Multi.{plus_of}
 use Rattle.plain_trees.specs.Plain.{Plain, graft, root_of}
 use Rattle.plain_trees.specs.Canon.{canon}
@@ -15,15 +12,13 @@ use Rattle.plain_trees.specs.Multinomials.{choose}
 use Rattle.plain_trees.specs.Coproducts.{Recentred}
 use Rattle.tree_pool.specs.Content.{Content, Holds, tree_at, IsGrown}
 use Rattle.tree_pool.specs.declared.node.TreeId.{TreeId}
-use Rattle.tree_pool.specs.declared.node.EdgeTo.{EdgeTo}
-use Rattle.tree_pool.proofs.Growth.{grown_trans, grown_at, grown_holds}
+use Rattle.tree_pool.proofs.Growth.{grown_at, grown_holds}
 use Rattle.tree_pool.proofs.Walks.{at_holds}
 use Rattle.cutting_tables.specs.Keys.{left_inside, left_factor, right_outside, right_factor}
 use Rattle.cutting_tables.proofs.Collecting.{product_value}
 use Rattle.pooled_cuttings.specs.declared.keys.RightKey.{RightKey}
 use Rattle.pooled_cuttings.specs.Lines.{recentred_in, recentred_terms_in, IsRightKey, IsRightLine, AreRightLines}
-use Rattle.pooled_cuttings.specs.RightProducts.{left_term, right_term, IsPairFit}
-use Rattle.pooled_cuttings.proofs.Means.{pair_of, right_lines_grown, right_terms_grown, right_line_grown, recentred_grown, rekeyed-append}
+use Rattle.pooled_cuttings.proofs.Means.{pair_of, right_lines_grown, right_terms_grown, rekeyed-append}
 use Rattle.pooled_cuttings.proofs.Rows.{all_append}
 
 pub key_held : (c : Content) (left right : TreeId) (l r : Plain) → Holds c left.0 l → Holds c right.0 r →

@@ -19,7 +19,6 @@ use Rattle.std.specs.List.{AllByRecursion}
 use Rattle.std.specs.Ordering.{int_cmp, is_gt}
 use Rattle.exact_sums.specs.Keyed.{saturated_terms, products}
 use Rattle.degree_numbers.specs.declared.types.Types.{Types}
-use Rattle.degree_numbers.specs.declared.multi.Multi.{Multi}
 use Rattle.degree_numbers.specs.Multi.{minus_of, IsAtMost, IsMultiIndex}
 use Rattle.plain_trees.specs.Plain.{Plain, bare, IsSmall}
 use Rattle.plain_trees.specs.Degree.{degree_of, HasTypes}

@@ -15,7 +15,6 @@ mod made;
 mod outside;
 mod right;
 mod right_products;
-
 mod seeds;
 mod steps;
 mod tables;

@@ -1,5 +1,4 @@
-use Rattle.std.proofs.Common.{◌*◌, ◌∙◌, ap, arith}
-use Rattle.exact_sums.specs.Saturating.{saturated}
+use Rattle.std.proofs.Common.{◌*◌, ◌∙◌, arith}
 use Rattle.tree_pool.specs.Content.{tree_at}
 use Rattle.cutting_tables.specs.Keys.{right_outside, right_factor}
 use Rattle.cutting_tables.proofs.Rooted.{right_above}

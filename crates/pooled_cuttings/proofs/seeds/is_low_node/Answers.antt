@@ -1,6 +1,5 @@
-use Rattle.std.proofs.Common.{◌≡◌, ◌∙◌, ℤ, ap, arith, pos, not}
+use Rattle.std.proofs.Common.{ap, arith, pos}
 use Rattle.std.proofs.lemmas.Int.{ints}
-use Rattle.std.specs.Ordering.{int_cmp, is_gt}
 use Rattle.degree_numbers.specs.declared.degree.Degree.{Degree}
 use Rattle.plain_trees.specs.Plain.{bare}
 use Rattle.plain_trees.specs.Degree.{degree_of}

@@ -1,11 +1,9 @@
-use Rattle.std.proofs.Common.{◌≡◌, ◌∙◌, ◌++◌, sym, ap, List, [], ℕ, arith, pos, refl}
-use Rattle.degree_numbers.specs.declared.types.Types.{Types}
+use Rattle.std.proofs.Common.{◌∙◌, ◌++◌, sym, ap, List, [], ℕ, arith, pos, refl}
 use Rattle.degree_numbers.specs.Multi.{minus_of}
-use Rattle.plain_trees.specs.Plain.{Plain, bare}
+use Rattle.plain_trees.specs.Plain.{bare}
 use Rattle.tree_pool.specs.Content.{Content}
 use Rattle.cutting_tables.specs.Keys.{Opened}
 use Rattle.pooled_cuttings.specs.Lines.{opened_terms_in}
-use Rattle.pooled_cuttings.specs.Products.{is_low}
 use Rattle.pooled_cuttings.proofs.Means.{open_of}
 use Rattle.pooled_cuttings.proofs.Degrees.{low_same}
 use Rattle.pooled_cuttings.proofs.MadeKeys.{open_pushed_lines, open_pushed, kept_one, nothing_kept}

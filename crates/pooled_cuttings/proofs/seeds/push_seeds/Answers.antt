@@ -1,4 +1,4 @@
-use Rattle.std.proofs.Common.{◌≡◌, ◌∙◌, ◌++◌, ap, refl, subst, sym, List, [], ◌∷◌, ℕ, pos}
+use Rattle.std.proofs.Common.{◌∙◌, ◌++◌, ap, refl, subst, sym, [], ◌∷◌, pos}
 use Rattle.degree_numbers.specs.declared.types.Types.{Types}
 use Rattle.pooled_cuttings.specs.Lines.{opened_terms_in}
 use Rattle.pooled_cuttings.specs.Products.{IsPart, kept_terms, seed}

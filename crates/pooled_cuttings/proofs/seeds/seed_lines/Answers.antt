@@ -2,7 +2,6 @@ use Rattle.std.proofs.Common.{◌∙◌, ◌++◌, ap, subst, sym, map, pos, Lis
 use Rattle.degree_numbers.specs.declared.types.Types.{Types}
 use Rattle.degree_numbers.specs.declared.multi.Multi.{Multi}
 use Rattle.std.specs.List.{AllByRecursion}
-use Rattle.cutting_tables.specs.Keys.{Opened}
 use Rattle.pooled_cuttings.specs.declared.keys.OpenKey.{OpenKey}
 use Rattle.pooled_cuttings.specs.Lines.{opened_terms_in}
 use Rattle.pooled_cuttings.specs.Products.{IsPart, kept_terms, seed}
