@@ -1,6 +1,5 @@
 -- Degrees of the components that products make.
-use Rattle.std.proofs.Common.{◌≡◌, ℕ, ◌+◌, ◌*◌, ◌<◌, ◌≤◌, ℤ, pos, ◌+ℤ◌, ◌≤ℤ◌, ◌<ℤ◌, Bool, true, false, not, List, [], length, sum, refl, sym, ap, ◌∙◌, arith, FitsSigned, w64, unsigned_abs, slice_get, Some, Ordering, Less, Equal, Greater}
-use Rattle.std.specs.List.{AllByRecursion}
+use Rattle.std.proofs.Common.{◌≡◌, ℕ, ◌*◌, ◌<◌, ◌≤◌, ℤ, ◌≤ℤ◌, ◌<ℤ◌, Bool, true, false, not, List, [], length, sum, refl, sym, ap, ◌∙◌, arith, unsigned_abs, Ordering, Less, Equal, Greater}
 use Rattle.std.specs.Ordering.{int_cmp, is_gt, MatchOrdering}
 use Rattle.std.proofs.lemmas.Cmp.{int_ranked}
 use Rattle.std.proofs.lemmas.Int.{ints}
@@ -11,9 +10,9 @@ use Rattle.degree_numbers.specs.Degree.{IsWithin}
 use Rattle.degree_numbers.specs.Types.{AreTypes, size_in_units}
 use Rattle.degree_numbers.specs.Multi.{scaled_size}
 use Rattle.degree_numbers.proofs.ScaledSizes.{scaled_size_most}
-use Rattle.plain_trees.specs.Plain.{Plain, bare, graft}
-use Rattle.plain_trees.specs.Degree.{degree_of, edge_degree_of}
-use Rattle.plain_trees.proofs.DegreeBounds.{units_most, scaling_most, small_a, small_edge_a}
+use Rattle.plain_trees.specs.Plain.{Plain, bare}
+use Rattle.plain_trees.specs.Degree.{degree_of}
+use Rattle.plain_trees.proofs.DegreeBounds.{units_most, scaling_most, small_a}
 use Rattle.tree_pool.specs.Content.{Content, tree_at, IsPooled}
 use Rattle.pooled_cuttings.specs.Products.{is_low}
 
@@ -71,3 +70,9 @@ not_low a most h =
       | Equal ↦ λ r e. absurd cc
       | Greater ↦ λ r e. r
     ]) (ranked a most) h
+
+pub low_same : (b : Bool) (ty u : Types) (m n : ℤ) (t : Plain) → b ≡ is_low ty m t → m ≡ n → ty ≡ u → is_low u n t ≡ b
+low_same b ty u m n t h e s = sym (h ∙ ap (λ (z : ℤ). is_low ty z t) e ∙ ap (λ (v : Types). is_low v n t) s)
+
+pub low_between : (b : Bool) (o : Ordering) (a z m n : ℤ) → b ≡ is_gt o → o ≡ int_cmp a m → a ≡ z → m ≡ n → not b ≡ not (is_gt (int_cmp z n))
+low_between b o a z m n h k e f = low_goal b o a z m h k e ∙ ap (λ (y : ℤ). not (is_gt (int_cmp z y))) f

@@ -1,28 +1,27 @@
 -- One more edge: lines with the sums of the tables of two trees may be put together.
-use Rattle.std.proofs.Common.{◌≡◌, ℕ, suc, ◌+◌, ◌*◌, ◌<◌, ◌≤◌, ℤ, pos, neg_ℤ, ◌+ℤ◌, ◌≤ℤ◌, Bool, true, false, cond, not, List, [], ◌∷◌, ◌++◌, map, flat_map, filter, length, sum, refl, sym, ap, ◌∙◌, arith, subst, unsigned_abs}
+use Rattle.std.proofs.Common.{◌≡◌, ℕ, ◌*◌, ◌<◌, ◌≤◌, ℤ, pos, neg_ℤ, ◌+ℤ◌, ◌≤ℤ◌, Bool, true, false, cond, List, [], ◌∷◌, ◌++◌, map, filter, length, sum, refl, sym, ap, ◌∙◌, arith, subst, unsigned_abs}
 use Rattle.std.specs.List.{AllByRecursion}
 use Rattle.std.proofs.lemmas.Int.{ints}
-use Rattle.std.specs.Ordering.{int_cmp, is_gt}
-use Rattle.exact_sums.specs.Saturating.{overflow, saturated}
+use Rattle.exact_sums.specs.Saturating.{saturated}
+use Rattle.exact_sums.proofs.KeyedLaws.{saturated_sums}
 use Rattle.exact_sums.specs.Keyed.{rekeyed, same_by, sum_at}
 use Rattle.degree_numbers.specs.declared.types.Types.{Types}
 use Rattle.degree_numbers.specs.declared.multi.Multi.{Multi}
 use Rattle.degree_numbers.specs.Types.{AreTypes}
-use Rattle.degree_numbers.specs.Multi.{IsMultiIndex}
 use Rattle.degree_numbers.specs.declared.types.TypeId.{TypeId}
 use Rattle.tree_pool.specs.Content.{tree_at, tree_over}
 use Rattle.tree_pool.specs.declared.node.EdgeTo.{EdgeTo}
 use Rattle.cutting_tables.specs.declared.lows.Lows.{Lows}
 use Rattle.cutting_tables.specs.PoolLows.{AreLows}
-use Rattle.plain_trees.specs.Plain.{Plain, graft}
+use Rattle.plain_trees.specs.Plain.{Plain, bare, graft}
 use Rattle.plain_trees.specs.Degree.{HasTypes, degree_of}
 use Rattle.plain_trees.specs.Cutting.{limits, shifts}
 use Rattle.plain_trees.specs.Coproducts.{Extracted, each_direction, extracted_order}
 use Rattle.cutting_sizes.specs.Bounds.{IsBounded, most_shift}
 use Rattle.cutting_sizes.specs.Lows.{low, lowest}
 use Rattle.cutting_sizes.proofs.Made.{IsBelow, below_is}
-use Rattle.cutting_tables.specs.Keys.{Opened, inside, outside, beside, closes, closing, opened_order}
-use Rattle.cutting_tables.specs.Tables.{closed_terms, idle_branch, touched_branch}
+use Rattle.cutting_tables.specs.Keys.{Opened, inside, outside, closes, closing, opened_order}
+use Rattle.cutting_tables.specs.Tables.{closed_terms, idle_branch, touched_branch, seeds}
 use Rattle.cutting_tables.specs.Live.{AreSameOpened, AreSameExtracted, is_live, live_terms, tables_within, IsLiveTable}
 use Rattle.cutting_tables.proofs.Closing.{touched_step_types, idle_step, closed_step}
 use Rattle.cutting_tables.proofs.Steps.{is_live-live, is_live-dead}
@@ -35,8 +34,8 @@ use Rattle.pooled_cuttings.specs.declared.tables.TableBounds.{TableBounds}
 use Rattle.pooled_cuttings.specs.declared.tables.NodeTables.{NodeTables}
 use Rattle.pooled_cuttings.specs.NodeTables.{AreTables, IsTableBounds, IsOneMore}
 use Rattle.pooled_cuttings.proofs.Means.{tables_grown, extract_lines_grown, extract_terms_grown}
-use Rattle.pooled_cuttings.specs.Lines.{opened_in, extracted_in, opened_terms_in, extracted_terms_in, AreOpenLines, AreExtractLines, IsOpenLine, IsExtractLine}
-use Rattle.pooled_cuttings.specs.Products.{is_low, low_terms, touched_products, CanHold, IsEdgeStep, AreInsideFit, AreOutsideFit, AreBesideFit}
+use Rattle.pooled_cuttings.specs.Lines.{opened_in, extracted_in, opened_terms_in, extracted_terms_in, AreOpenLines, AreExtractLines}
+use Rattle.pooled_cuttings.specs.Products.{is_low, low_terms, kept_terms, CanHold, IsEdgeStep, AreInsideFit, AreOutsideFit, AreBesideFit}
 use Rattle.pooled_cuttings.proofs.Members.{all_more, all_unmapped}
 use Rattle.pooled_cuttings.proofs.Fitting.{IsOpenOf, IsIdleOf, IsClosedOf, open_lines, idle_lines, closed_lines, open_fit, idle_fit, inside_of, outside_of, beside_of, more_shifts, shift_sum}
 
@@ -118,7 +117,7 @@ module _ (g : GroveContent) (types : AreTypes g.pool.types) (e : EdgeStep) (c t 
       all_more (λ x. IsClosedOf ty c (extracted_in g x.0)) _ xs
       (λ x p. all_more (λ y. IsIdleOf ty t (extracted_in g y.0)) _ ys
       (λ y q. let z = beside_of ty e.kind.0 e.p.entries c t (extracted_in g x.0) (extracted_in g y.0) p q in
-        subst (CanHold ty) z.2 (idle_fit ty types whole typed bounded z.0 z.1)) of_ys) of_xs
+      subst (CanHold ty) z.2 (idle_fit ty types whole typed bounded z.0 z.1)) of_ys) of_xs
 
 pub small_shifts : (d m : ℕ) (p : List ℕ) (ss : List Multi) → length p ≡ 5 → m ≤ most_shift → map (λ s. s.entries) ss ≡ shifts (each_direction d m) p →
     AllByRecursion (λ s. sum s.entries ≤ 8192) ss
@@ -272,3 +271,24 @@ closed_table ty b t new old start idle touched h first e enough i l = λ key.
     ∙ ap (λ (ts : List (Extracted × ℕ)). saturated (sum_at (same_by extracted_order) key ts))
     (e ∙ ap (λ (ts : List (Extracted × ℕ)). ts ++ rekeyed closing (filter (λ e. closes ty e.0) touched)) first)
     ∙ closed_step ty most_shift b t enough idle touched i l key
+
+-- the tree with one node
+pub node_tables : (g h k : GroveContent) (b : TableBounds) (n : List ℕ) (x : NodeTables) → IsGrove h → IsGrownGrove g h → IsGrownGrove h k → AreLows g.pool.types (bare n) x.lows →
+    AreExtractLines h x.idle.items → extracted_terms_in h x.idle.items ≡ (([], bare n), 1) ∷ [] → AreOpenLines k x.touched.items →
+    opened_terms_in k x.touched.items ≡ kept_terms h.pool.types (pos b.excess) (seeds n) → AreTables k b (bare n) x
+node_tables g h k b n x ish a d l il i tl e =
+    let ty : k.pool.types ≡ g.pool.types = d.pool.types ∙ a.pool.types in
+    let zero_low : pos b.excess ≡ low h.pool.types (bare n) +ℤ pos b.excess = omega (arith, ints) in
+    let idle = extract_terms_grown h k x.idle.items ish d il ∙ i in
+    record {
+      lows = subst (λ (u : Types). AreLows u (bare n) x.lows) (sym ty) l;
+      idle_lines = extract_lines_grown h k x.idle.items d il;
+      idle = λ key. ap (λ (ts : List (Extracted × ℕ)). saturated (sum_at (same_by extracted_order) key ts)) idle;
+      touched_lines = tl;
+      touched =
+          subst (λ (u : Types). IsLiveTable u most_shift b.excess (bare n) (opened_terms_in k x.touched.items)) (sym d.pool.types)
+          (λ key.
+          ap (λ (ts : List (Opened × ℕ)). saturated (sum_at (same_by opened_order) key ts)) e
+          ∙ saturated_sums (same_by opened_order) (low_terms h.pool.types (pos b.excess) (seeds n)) key
+          ∙ ap (λ (ts : List (Opened × ℕ)). saturated (sum_at (same_by opened_order) key ts)) (low_terms_live h.pool.types b.excess (pos b.excess) (bare n) zero_low (seeds n)));
+    }

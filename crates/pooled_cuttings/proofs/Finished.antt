@@ -1,12 +1,10 @@
 -- Which components are finished.
-use Rattle.std.proofs.Common.{◌≡◌, ℕ, ◌≤◌, Bool, true, false, not, ◌&&◌, List, [], ◌∷◌, map, length, refl, sym, ap, ◌∙◌, arith, subst}
-use Rattle.std.proofs.lemmas.List.{length-map}
+use Rattle.std.proofs.Common.{◌≡◌, ℕ, ◌≤◌, Bool, true, false, not, ◌&&◌, List, [], ◌∷◌, length, refl, sym, ap, ◌∙◌, arith}
 use Rattle.degree_numbers.specs.declared.types.Types.{Types}
 use Rattle.plain_trees.specs.Plain.{Plain}
-use Rattle.plain_trees.specs.View.{Labelled, grafted}
 use Rattle.plain_trees.specs.Degree.{planted, is_kernel, degree_of}
 use Rattle.plain_trees.specs.Coproducts.{is_extracted, is_below_zero}
-use Rattle.tree_pool.specs.Content.{Content, Holds, tree_at, tree_over, edge_over}
+use Rattle.tree_pool.specs.Content.{Content, Holds, tree_at, tree_over}
 use Rattle.tree_pool.specs.declared.node.EdgeTo.{EdgeTo}
 use Rattle.tree_pool.proofs.Walks.{at_holds}
 use Rattle.tree_cuttings.specs.Roots.{has_edge}

@@ -1,13 +1,11 @@
 -- What products make of lines with the sums of the tables of a bounded tree is small.
-use Rattle.std.proofs.Common.{◌≡◌, ℕ, zero, suc, ◌+◌, ◌*◌, ◌<◌, ◌≤◌, ℤ, pos, ◌+ℤ◌, ◌≤ℤ◌, Bool, true, false, inl, inr, List, [], ◌∷◌, ◌++◌, map, filter, length, sum, refl, sym, ap, ◌∙◌, arith, subst, unsigned_abs}
+use Rattle.std.proofs.Common.{◌≡◌, ℕ, zero, suc, ◌+◌, ◌*◌, ◌<◌, ◌≤◌, ℤ, pos, ◌+ℤ◌, ◌≤ℤ◌, Bool, true, false, List, [], ◌∷◌, length, sum, refl, sym, ap, ◌∙◌, arith, subst, unsigned_abs}
 use Rattle.std.specs.List.{AllByRecursion}
 use Rattle.std.proofs.lemmas.Int.{ints}
 use Rattle.std.proofs.lemmas.List.Sums.{sum_by_from}
 use Rattle.ordered_lists.specs.Members.{IsIn}
-use Rattle.exact_sums.specs.Keyed.{keys}
 use Rattle.degree_numbers.specs.declared.types.Types.{Types}
 use Rattle.degree_numbers.specs.Types.{AreTypes}
-use Rattle.degree_numbers.specs.Multi.{plus_of}
 use Rattle.plain_trees.specs.Plain.{Plain, graft}
 use Rattle.plain_trees.specs.Canon.{canon}
 use Rattle.plain_trees.specs.Degree.{HasTypes, degree_of}
@@ -21,13 +19,13 @@ use Rattle.tree_cuttings.proofs.Positive.{all_filter}
 use Rattle.tree_cuttings.proofs.Whole.{plus-zeros}
 use Rattle.cutting_sizes.specs.Bounds.{AreTyped, IsBounded, HasAtMost, IsOfBounded, most_shift, most_part, most_open_quotient}
 use Rattle.cutting_sizes.specs.Lows.{low, IsLive}
-use Rattle.cutting_sizes.proofs.Made.{IsBelow, below_is}
+use Rattle.cutting_sizes.proofs.Made.{IsBelow}
 use Rattle.cutting_sizes.proofs.Steps.{in_below, step_inside, step_outside, step_idle}
 use Rattle.cutting_sizes.proofs.Bounded.{canon_at_most, at_most_small, entries_live_bounded, entries_idle_bounded}
 use Rattle.cutting_sizes.proofs.TypesKept.{entries_typed, idle_typed}
 use Rattle.cutting_tables.specs.Keys.{Opened, opened, inside, outside, beside}
-use Rattle.cutting_tables.specs.Tables.{closed_terms, extraction_tables}
-use Rattle.cutting_tables.specs.Live.{AreSameOpened, AreSameExtracted, is_live, live_terms, tables_within, IsLiveTable}
+use Rattle.cutting_tables.specs.Tables.{closed_terms}
+use Rattle.cutting_tables.specs.Live.{AreSameExtracted, is_live, live_terms, tables_within, IsLiveTable}
 use Rattle.cutting_tables.proofs.CanonSteps.{canon-graft}
 use Rattle.cutting_tables.proofs.Keyed.{opened_term, idle_term, opened-inside, opened-outside, touched_keyed, terms_keyed, tables_keyed}
 use Rattle.cutting_tables.proofs.Steps.{exact_opened, exact_extracted}
@@ -157,7 +155,7 @@ module _ (ty : Types) where
     (idle_term (with_outside (zeros p) k p e f)).0,
     (with_outside (zeros p) k p e f, step_idle good w k p c t e f i j, refl),
     ap (λ (m : List ℕ). canon (graft k m e.quotient f.quotient)) (plus-zeros p)
-    ∙ sym (canon-graft k p e.quotient f.quotient)
-    ∙ ap (λ (z : Extracted). canon (graft k p z.1 (canon f.quotient))) q
-    ∙ ap (λ (z : Extracted). canon (graft k p x.1 z.1)) r,
+        ∙ sym (canon-graft k p e.quotient f.quotient)
+        ∙ ap (λ (z : Extracted). canon (graft k p z.1 (canon f.quotient))) q
+        ∙ ap (λ (z : Extracted). canon (graft k p x.1 z.1)) r,
   )

@@ -1,7 +1,6 @@
 -- How a grove grows, and what stays.
-use Rattle.std.proofs.Common.{◌≡◌, ℕ, ◌+◌, ◌<◌, ◌≤◌, List, [], ◌∷◌, ◌++◌, map, length, refl, sym, ap, ◌∙◌, arith, append_assoc, append-nil, length-append, subst, inl, inr, Result, Ok, Err}
+use Rattle.std.proofs.Common.{◌≡◌, ℕ, ◌<◌, ◌≤◌, List, [], ◌∷◌, ◌++◌, length, refl, sym, ap, ◌∙◌, arith, append_assoc, append-nil, length-append, subst, inl, inr, Result, Ok, Err}
 use Rattle.std.specs.Prelude.{IfOk, OnErr}
-use Rattle.std.specs.List.{AllByRecursion}
 use Rattle.std.proofs.Math.ListN.{get_or-append}
 use Rattle.plain_trees.specs.Plain.{Plain, bare}
 use Rattle.tree_pool.specs.Content.{Content, tree_at, trees_at, Holds, IsGrown, IsPooled}
@@ -10,7 +9,6 @@ use Rattle.tree_pool.specs.declared.forest.ForestId.{ForestId}
 use Rattle.tree_pool.specs.declared.error.PoolError.{PoolError}
 use Rattle.tree_pool.proofs.Growth.{grown_refl, grown_trans, grown_length, grown_at, grown_holds}
 use Rattle.tree_pool.proofs.Ids.{known_forest, known_append}
-use Rattle.std.specs.List.Sorted.{IsPermutation}
 use Rattle.std.proofs.lemmas.List.{map-append}
 use Rattle.std.proofs.lemmas.List.Sorted.{IsPermutation-refl}
 use Rattle.std.proofs.lemmas.Option.{slice_get-get_or}
@@ -31,7 +29,7 @@ grove_trans f g h a b = record {
   forests = (
     a.forests.0 ++ b.forests.0,
     b.forests.1 ∙ ap (λ (fs : List (List ℕ)). fs ++ b.forests.0) a.forests.1
-    ∙ append_assoc f.forests a.forests.0 b.forests.0,
+        ∙ append_assoc f.forests a.forests.0 b.forests.0,
   );
 }
 
@@ -135,3 +133,11 @@ pub component_after : (g h : GroveContent) (r : Result ForestId PoolError) (part
     IfOk r (λ f. HoldsForest h f.0 (with_tree (tree_at g.pool part.0) (forest_in g above)))
 component_after g h (Ok f) part ids all above is kp ka of whole pool known sorting = component_at g h f part ids all above is kp ka of whole pool known sorting
 component_after g h (Err e) part ids all above is kp ka of whole pool known sorting = tt
+
+pub empty_after : (g h : GroveContent) (r : Result ForestId PoolError) → IsGrove g → h.pool ≡ g.pool → IfOk r (λ f. f.0 < length h.forests) →
+    IfOk r (λ f. IsSorting g.pool [] (forest_at h.forests f.0)) → IfOk r (λ f. HoldsForest h f.0 [])
+empty_after g h (Ok f) is pool known sorting = record {
+  known = known;
+  trees = ap (λ (c : Content). trees_at c (forest_at h.forests f.0)) pool ∙ sorted_pool_forest g.pool [] (forest_at h.forests f.0) is.pooled tt sorting;
+}
+empty_after g h (Err e) is pool known sorting = tt

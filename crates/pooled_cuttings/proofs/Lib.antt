@@ -8,7 +8,9 @@ pub mod MadeKeys
 pub mod Makings
 pub mod Means
 pub mod Members
+pub mod Parts
 pub mod ProductRows
+pub mod RightKeys
 pub mod Rows
 pub mod SameKeys
 pub mod SameSums

@@ -1,5 +1,5 @@
 -- What the loops over lines put behind others, line by line.
-use Rattle.std.proofs.Common.{◌≡◌, ℕ, ◌+◌, ◌*◌, ◌<◌, ◌≤◌, List, [], ◌∷◌, ◌++◌, map, flat_map, filter, drop, length, get_or, refl, sym, ap, ◌∙◌, subst}
+use Rattle.std.proofs.Common.{◌≡◌, ℕ, ℤ, ◌<◌, List, [], ◌∷◌, ◌++◌, map, flat_map, filter, length, get_or, refl, sym, ap, ◌∙◌, subst}
 use Rattle.std.specs.List.{AllByRecursion}
 use Rattle.std.proofs.lemmas.List.Elements.{filter-append}
 use Rattle.std.proofs.lemmas.List.{get_or_default}
@@ -13,10 +13,9 @@ use Rattle.pooled_cuttings.specs.declared.keys.ExtractKey.{ExtractKey}
 use Rattle.pooled_cuttings.specs.declared.steps.EdgeStep.{EdgeStep}
 use Rattle.pooled_cuttings.specs.Groves.{GroveContent, IsGrove, IsGrownGrove}
 use Rattle.pooled_cuttings.specs.Lines.{opened_in, extracted_in, opened_terms_in, extracted_terms_in, IsOpenKey, IsExtractKey, IsOpenLine, IsExtractLine, AreOpenLines, AreExtractLines}
-use Rattle.pooled_cuttings.specs.Products.{kept_terms, touched_products, inside_term, outside_term, beside_term, IsInsideFit, IsOutsideFit, IsBesideFit, AreInsideFit, AreOutsideFit, AreBesideFit}
-use Rattle.pooled_cuttings.proofs.Means.{pair_of, opened_grown, extracted_grown, open_terms_grown, extract_terms_grown, open_line_grown, extract_line_grown, open_lines_grown, extract_lines_grown}
+use Rattle.pooled_cuttings.specs.Products.{kept_terms, seed, touched_products, inside_term, outside_term, beside_term, IsInsideFit, IsOutsideFit, IsBesideFit, AreOutsideFit}
+use Rattle.pooled_cuttings.proofs.Means.{pair_of, opened_grown, extracted_grown, open_terms_grown, extract_terms_grown}
 use Rattle.pooled_cuttings.proofs.ProductRows.{saturated_terms-append, kept_terms-append}
-use Rattle.pooled_cuttings.proofs.Rows.{row_step, all_at}
 
 abbrev pub inside_one : GroveContent → EdgeStep → OpenKey × ℕ → OpenKey × ℕ → List (Opened × ℕ)
 inside_one g e x y = kept_terms g.pool.types e.most (inside_term e (opened_in g x.0, x.1) (opened_in g y.0, y.1) ∷ [])
@@ -122,8 +121,8 @@ module _ (g h : GroveContent) (is : IsGrove g) (a : IsGrownGrove g h) (e : EdgeS
     pub outside_fit_grown : (x : ExtractKey × ℕ) (y : OpenKey × ℕ) → IsExtractLine g x → IsOpenLine g y → IsOutsideFit g.pool.types e s (extracted_in g x.0) (opened_in g y.0) →
         IsOutsideFit h.pool.types e s (extracted_in h x.0) (opened_in h y.0)
     outside_fit_grown x y i j fit = subst (λ (ty : Types). IsOutsideFit ty e s (extracted_in h x.0) (opened_in h y.0)) (sym a.pool.types)
-      (subst (λ (z : Extracted). IsOutsideFit g.pool.types e s z (opened_in h y.0)) (sym (extracted_grown g h x.0 is a i.0))
-      (subst (λ (z : Opened). IsOutsideFit g.pool.types e s (extracted_in g x.0) z) (sym (opened_grown g h y.0 is a j.0)) fit))
+        (subst (λ (z : Extracted). IsOutsideFit g.pool.types e s z (opened_in h y.0)) (sym (extracted_grown g h x.0 is a i.0))
+        (subst (λ (z : Opened). IsOutsideFit g.pool.types e s (extracted_in g x.0) z) (sym (opened_grown g h y.0 is a j.0)) fit))
 
     pub outside_row_grown : (x : ExtractKey × ℕ) (ys : List (OpenKey × ℕ)) → IsExtractLine g x → AreOpenLines g ys → outside_row h e s x ys ≡ outside_row g e s x ys
     outside_row_grown x ys i j =
@@ -254,3 +253,11 @@ module _ (g h : GroveContent) (is : IsGrove g) (a : IsGrownGrove g h) (e : EdgeS
       ∙ sym (kept_terms-append g.pool.types e.most
       (products inside_factor (inside e.kind.0 e.p.entries) (opened_terms_in g above) (opened_terms_in g ys))
       (flat_map (λ s. products (outside_factor s) (outside s e.kind.0 e.p.entries) (extracted_terms_in g xs) (opened_terms_in g ys)) (map (λ m. m.entries) ss)))
+
+-- the parts of a decoration
+abbrev pub seed_row : GroveContent → ℤ → List ℕ → List Multi → List (Opened × ℕ)
+seed_row g most n xs = kept_terms g.pool.types most (map (seed n) (map (λ a. a.entries) xs))
+
+pub seed_row_parts : (g : GroveContent) (most : ℤ) (n : List ℕ) (a : Multi) (xs : List Multi) →
+    seed_row g most n (a ∷ xs) ≡ kept_terms g.pool.types most (seed n a.entries ∷ []) ++ seed_row g most n xs
+seed_row_parts g most n a xs = kept_terms-append g.pool.types most (seed n a.entries ∷ []) (map (seed n) (map (λ a. a.entries) xs))

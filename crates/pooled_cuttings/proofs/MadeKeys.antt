@@ -1,6 +1,5 @@
 -- Keys that are made of others, and their coefficients.
-use Rattle.std.proofs.Common.{◌≡◌, ℕ, zero, suc, ◌+◌, ◌*◌, ◌<◌, ◌≤◌, ℤ, Bool, true, false, not, List, [], ◌∷◌, ◌++◌, map, filter, length, sum, get_or, ◌^◌, ◌&&◌, refl, sym, ap, ◌∙◌, arith, subst, append-nil}
-use Rattle.std.specs.List.{AllByRecursion}
+use Rattle.std.proofs.Common.{◌≡◌, ℕ, zero, suc, ◌+◌, ◌*◌, ◌<◌, ◌≤◌, ℤ, Bool, true, false, not, List, [], ◌∷◌, ◌++◌, filter, length, sum, get_or, ◌^◌, ◌&&◌, refl, sym, ap, ◌∙◌, arith, subst, append-nil}
 use Rattle.std.specs.Ordering.{int_cmp, is_gt}
 use Rattle.std.proofs.lemmas.Option.{slice_get_within}
 use Rattle.std.proofs.lemmas.List.Sums.{sum_by_from}
@@ -9,9 +8,8 @@ use Rattle.exact_sums.specs.Keyed.{rekeyed, saturated_terms}
 use Rattle.degree_numbers.specs.declared.types.Types.{Types}
 use Rattle.degree_numbers.specs.declared.degree.Degree.{Degree}
 use Rattle.degree_numbers.specs.Multi.{plus_of}
-use Rattle.plain_trees.specs.Plain.{Plain, bare, graft, root_of, edge_count_of, decoration_sum_of, IsSmall}
+use Rattle.plain_trees.specs.Plain.{Plain, bare, graft, root_of, decoration_sum_of, IsSmall}
 use Rattle.plain_trees.specs.Canon.{canon, IsSame, exchanged, on_both, unchanged, chained}
-use Rattle.plain_trees.specs.Degree.{HasTypes, degree_of}
 use Rattle.plain_trees.specs.Joined.{raised, joined}
 use Rattle.plain_trees.specs.Multinomials.{choose}
 use Rattle.plain_trees.specs.Coproducts.{Extracted, with_tree, canon_forest, is_extracted}
@@ -31,7 +29,7 @@ use Rattle.pooled_cuttings.specs.declared.keys.ExtractKey.{ExtractKey}
 use Rattle.pooled_cuttings.specs.Groves.{GroveContent, IsGrove, IsGrownGrove, forest_in}
 use Rattle.pooled_cuttings.specs.Lines.{opened_in, extracted_in, opened_terms_in, extracted_terms_in, IsOpenKey, IsExtractKey, IsOpenLine, IsExtractLine, AreOpenLines, AreExtractLines}
 use Rattle.pooled_cuttings.specs.Products.{is_low, kept_terms, HoldsForest, CanHold}
-use Rattle.pooled_cuttings.proofs.Groves.{more_trees, grove_trans, tree_grown, forest_grown, holds_grown, holds_forest_grown}
+use Rattle.pooled_cuttings.proofs.Groves.{more_trees, grove_trans, tree_grown, forest_grown, holds_grown}
 use Rattle.pooled_cuttings.proofs.Means.{open_of, pair_of, open_lines_grown, open_terms_grown, extract_lines_grown, extract_terms_grown, rekeyed-append}
 use Rattle.pooled_cuttings.proofs.Rows.{all_append}
 
@@ -105,8 +103,8 @@ pub open_key_held : (g : GroveContent) (above : ForestId) (part quotient : TreeI
 open_key_held g above part quotient fs p q a b c = (
   record { above = a.known; part = slice_get_within g.pool.trees part.0 p b; quotient = slice_get_within g.pool.trees quotient.0 q c },
   ap (λ (x : List Plain). open_of x (tree_at g.pool part.0) (tree_at g.pool quotient.0)) a.trees
-  ∙ ap (λ (x : Plain). open_of fs x (tree_at g.pool quotient.0)) (at_holds g.pool part.0 p b)
-  ∙ ap (open_of fs p) (at_holds g.pool quotient.0 q c),
+      ∙ ap (λ (x : Plain). open_of fs x (tree_at g.pool quotient.0)) (at_holds g.pool part.0 p b)
+      ∙ ap (open_of fs p) (at_holds g.pool quotient.0 q c),
 )
 
 pub extract_key_held : (g : GroveContent) (forest : ForestId) (quotient : TreeId) (fs : List Plain) (q : Plain) → HoldsForest g forest.0 fs → Holds g.pool quotient.0 q →
@@ -254,7 +252,7 @@ closed_held g h x forest k a there =
     let q = k.quotient in (
       record { forest = there.known; quotient = omega (arith, n, q) },
       ap (λ (fs : List Plain). pair_of fs (tree_at h.pool x.quotient.0)) there.trees
-      ∙ ap (pair_of (with_tree (tree_at g.pool x.part.0) (forest_in g x.above.0))) (tree_grown g h x.quotient.0 a q),
+          ∙ ap (pair_of (with_tree (tree_at g.pool x.part.0) (forest_in g x.above.0))) (tree_grown g h x.quotient.0 a q),
     )
 
 pub closed_one : (ty : Types) (x : Opened) (n : ℕ) → closes ty x ≡ true → rekeyed closing (filter (λ e. closes ty e.0) ((x, n) ∷ [])) ≡ (closing x, n) ∷ []

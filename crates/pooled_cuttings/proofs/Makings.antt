@@ -1,16 +1,15 @@
 -- Trees of a pool that are made of others.
-use Rattle.std.proofs.Common.{◌≡◌, ℕ, ◌+◌, ◌<◌, ◌≤◌, ◌^◌, List, [], ◌∷◌, ◌++◌, map, length, sum, get_or, refl, sym, ap, ◌∙◌, arith, subst, Result, Ok, Err}
+use Rattle.std.proofs.Common.{◌≡◌, ℕ, List, [], ◌∷◌, map, refl, sym, ap, ◌∙◌, subst, Result, Ok, Err}
 use Rattle.std.specs.Prelude.{IfOk, OnOk, OnErr}
-use Rattle.std.proofs.lemmas.List.Sums.{sum_by_from}
 use Rattle.degree_numbers.specs.declared.multi.Multi.{Multi}
 use Rattle.degree_numbers.specs.declared.types.TypeId.{TypeId}
 use Rattle.degree_numbers.specs.Multi.{plus_of}
-use Rattle.plain_trees.specs.Plain.{Plain, bare, graft}
+use Rattle.plain_trees.specs.Plain.{Plain, graft}
 use Rattle.plain_trees.specs.Canon.{canon, IsCanonical}
 use Rattle.plain_trees.specs.Joined.{raised}
 use Rattle.plain_trees.specs.View.{Labelled, grafted}
 use Rattle.plain_trees.proofs.CanonLaws.{canon_fixed}
-use Rattle.tree_pool.specs.Content.{Content, Holds, tree_at, tree_over, edge_over, labelled_by, AreBelow, IsPooled, IsGrown, IsGrownBy}
+use Rattle.tree_pool.specs.Content.{Content, Holds, tree_at, tree_over, edge_over, IsGrown, IsGrownBy}
 use Rattle.tree_pool.specs.declared.error.PoolError.{PoolError}
 use Rattle.tree_pool.proofs.Growth.{grown_by, grown_same}
 use Rattle.tree_pool.specs.declared.node.EdgeTo.{EdgeTo}

@@ -1,9 +1,8 @@
 -- What lines mean stays when a grove grows.
-use Rattle.std.proofs.Common.{◌≡◌, ℕ, ◌+◌, ◌<◌, ◌≤◌, List, [], ◌∷◌, ◌++◌, refl, sym, ap, ◌∙◌, arith}
+use Rattle.std.proofs.Common.{◌≡◌, ℕ, List, [], ◌∷◌, ◌++◌, refl, ap, ◌∙◌, arith}
 use Rattle.std.specs.List.{AllByRecursion}
 use Rattle.exact_sums.specs.Keyed.{rekeyed}
 use Rattle.plain_trees.specs.Plain.{Plain}
-use Rattle.plain_trees.specs.Coproducts.{Extracted, Recentred}
 use Rattle.tree_pool.specs.Content.{Content, tree_at, IsGrown}
 use Rattle.tree_pool.proofs.Growth.{grown_length, grown_at}
 use Rattle.cutting_tables.specs.Keys.{Opened}

@@ -1,8 +1,7 @@
 -- Keys of terms with the sums of others.
-use Rattle.std.proofs.Common.{◌≡◌, ℕ, ◌+◌, ◌<◌, ◌≤◌, Bool, true, false, cond, inl, inr, List, [], ◌∷◌, ◌++◌, map, filter, refl, sym, ap, ◌∙◌, arith, subst}
+use Rattle.std.proofs.Common.{◌≡◌, ℕ, ◌<◌, Bool, true, false, cond, inl, inr, List, [], ◌∷◌, map, refl, ap, arith, subst}
 use Rattle.std.specs.List.{AllByRecursion}
 use Rattle.ordered_lists.specs.Members.{IsIn}
-use Rattle.exact_sums.specs.Saturating.{saturated}
 use Rattle.exact_sums.specs.Keyed.{IsExactTest, sum_at, HaveSameSaturatedSums, keys}
 
 pub all_in : {X : Type 0} (P : X → Type 0) (xs : List X) → ((x : X) → IsIn x xs → P x) → AllByRecursion P xs

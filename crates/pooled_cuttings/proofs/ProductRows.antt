@@ -1,5 +1,5 @@
 -- Rows of products, term by term.
-use Rattle.std.proofs.Common.{◌≡◌, ℕ, ◌*◌, ℤ, List, [], ◌∷◌, ◌++◌, filter, flat_map, refl, sym, ap, ◌∙◌}
+use Rattle.std.proofs.Common.{◌≡◌, ℕ, ◌*◌, ℤ, List, [], ◌∷◌, ◌++◌, filter, refl, ap, ◌∙◌}
 use Rattle.std.proofs.lemmas.List.Elements.{filter-append}
 use Rattle.exact_sums.specs.Saturating.{saturated}
 use Rattle.exact_sums.specs.Keyed.{rekeyed, scaled, products, products_with, saturated_terms}

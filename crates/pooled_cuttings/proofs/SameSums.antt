@@ -1,10 +1,9 @@
 -- Lines that are joined mean terms with the same sums.
-use Rattle.std.proofs.Common.{◌≡◌, ℕ, ◌<◌, ◌≤◌, Bool, true, List, [], ◌∷◌, ◌++◌, refl, ap, ◌∙◌}
+use Rattle.std.proofs.Common.{◌≡◌, ℕ, ◌<◌, ◌≤◌, Bool, List, [], ◌∷◌, ◌++◌, ap, ◌∙◌}
 use Rattle.std.specs.List.{AllByRecursion}
 use Rattle.exact_sums.specs.Saturating.{overflow, saturated}
 use Rattle.exact_sums.proofs.KeyedLaws.{saturated_sums}
-use Rattle.exact_sums.specs.Keyed.{IsExactTest, HaveSameSaturatedSums, rekeyed, sum_at, saturated_terms}
-use Rattle.cutting_tables.proofs.Sums.{same_rekeyed}
+use Rattle.exact_sums.specs.Keyed.{IsExactTest, HaveSameSaturatedSums, sum_at, saturated_terms}
 use Rattle.pooled_cuttings.proofs.Members.{keys_hold, all_more}
 
 abbrev Counted : {K : Type 0} → (K → Type 0) → K × ℕ → Type 0

@@ -2,3 +2,4 @@ pub mod Groves
 pub mod Lines
 pub mod NodeTables
 pub mod Products
+pub mod RightProducts

@@ -9,7 +9,7 @@
 --       table, and the others those of the live part of the touched one, within the bounds b
 --   IsRightTable c t ls == the lines ls have the sums of the table of recentring of t
 --   IsOneMoreFit c e n rest == as IsOneMore, of a tree that is not too large
-use Rattle.std.specs.Prelude.{◌≡◌, ℕ, ◌+◌, ◌*◌, ◌<◌, ◌≤◌, suc, List, ◌∷◌, length, unsigned_abs}
+use Rattle.std.specs.Prelude.{ℕ, ◌*◌, ◌<◌, ◌≤◌, suc, List, ◌∷◌, length, unsigned_abs}
 use Rattle.degree_numbers.specs.declared.types.Types.{Types}
 use Rattle.degree_numbers.specs.declared.multi.Multi.{Multi}
 use Rattle.plain_trees.specs.Plain.{Plain}

@@ -14,7 +14,8 @@ mod lines;
 mod made;
 mod outside;
 mod right;
-
+mod right_products;
+mod seeds;
 mod steps;
 mod tables;
 

@@ -17,6 +17,7 @@ use crate::closing::push_all_closed;
 use crate::collecting::collect_extracted;
 use crate::grove::Grove;
 use crate::keys::{ExtractKey, OpenKey};
+use crate::seeds::{idle_seed, seed_lines};
 use crate::steps::EdgeStep;
 use cutting_tables::Lows;
 use degree_numbers::Multi;
@@ -55,7 +56,14 @@ pub fn tables_of_node(
     ensures tables { IfOk result (λ x. AreTables grove.new bounds.now (bare n.now.entries) x) }
     ensures grown { IsGrownGrove grove.old grove.new }
 {
-    Err(PoolError::Memory)
+    let idle = idle_seed(grove, alloc, n)?;
+    grove.laws();
+    let touched = seed_lines(grove, alloc, bounds, n)?;
+    Ok(NodeTables {
+        lows: Lows::of_node(),
+        idle,
+        touched,
+    })
 }
 
 /// The lines of all cuttings of which all components are extracted, from the tables of a tree:

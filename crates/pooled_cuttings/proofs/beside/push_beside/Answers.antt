@@ -1,5 +1,4 @@
-use Rattle.std.proofs.Common.{◌≡◌, ◌*◌, ◌∙◌, ◌++◌, sym, ap, List, ℕ, arith}
-use Rattle.exact_sums.specs.Saturating.{saturated}
+use Rattle.std.proofs.Common.{◌*◌, ◌∙◌, arith}
 use Rattle.cutting_tables.specs.Keys.{beside}
 use Rattle.pooled_cuttings.specs.Lines.{extracted_in}
 use Rattle.pooled_cuttings.proofs.MadeKeys.{value_above, extract_pushed_lines, extract_pushed_saturated, once}

@@ -1,14 +1,12 @@
-use Rattle.std.proofs.Common.{◌≡◌, ◌∙◌, ◌++◌, ap, refl, List, ℕ}
-use Rattle.pooled_cuttings.specs.Lines.{extracted_terms_in, IsOpenLine, IsExtractLine, opened_in, extracted_in}
-use Rattle.pooled_cuttings.proofs.Groves.{grove_refl, grove_trans}
-use Rattle.pooled_cuttings.proofs.Means.{open_line_grown, extract_line_grown, open_lines_grown, extract_lines_grown}
+use Rattle.std.proofs.Common.{◌∙◌, ◌++◌, ap, refl}
+use Rattle.pooled_cuttings.specs.Lines.{extracted_terms_in, IsExtractLine, extracted_in}
+use Rattle.pooled_cuttings.proofs.Groves.{grove_trans}
+use Rattle.pooled_cuttings.proofs.Means.{extract_line_grown, extract_lines_grown}
 use Rattle.pooled_cuttings.proofs.Rows.{row_step, row_end, all_at}
 use Rattle.pooled_cuttings.proofs.Loops.{beside_row, beside_rows, beside_rows_parts, beside_row_grown, beside_fits_grown}
-use Rattle.pooled_cuttings.specs.Products.{IsInsideFit, IsOutsideFit, IsBesideFit, AreOutsideFit}
+use Rattle.pooled_cuttings.specs.Products.{IsBesideFit}
 use Rattle.std.specs.List.{AllByRecursion}
-use Rattle.std.proofs.Common.{sum, ◌≤◌}
 use Rattle.pooled_cuttings.proofs.beside.push_beside_rows.Goals as goal
-
 
 pub push_beside_row-requires-clause-x : goal.push_beside_row-requires-clause-x
 push_beside_row-requires-clause-x c =

@@ -1,14 +1,10 @@
-use Rattle.std.proofs.Common.{◌≡◌, ◌∙◌, ◌++◌, ap, refl, List, ℕ}
-use Rattle.pooled_cuttings.specs.Lines.{extracted_terms_in, IsOpenLine, IsExtractLine, opened_in, extracted_in}
-use Rattle.pooled_cuttings.proofs.Groves.{grove_refl, grove_trans}
-use Rattle.pooled_cuttings.proofs.Means.{open_line_grown, extract_line_grown, open_lines_grown, extract_lines_grown}
+use Rattle.std.proofs.Common.{◌∙◌, ◌++◌, ap, refl}
+use Rattle.pooled_cuttings.specs.Lines.{extracted_terms_in, IsOpenLine}
+use Rattle.pooled_cuttings.proofs.Groves.{grove_trans}
+use Rattle.pooled_cuttings.proofs.Means.{open_line_grown}
 use Rattle.pooled_cuttings.proofs.Rows.{row_step, row_end, all_at}
 use Rattle.pooled_cuttings.proofs.Loops.{closed_row, closed_one, closed_row_parts, closed_one_grown}
-use Rattle.pooled_cuttings.specs.Products.{IsInsideFit, IsOutsideFit, IsBesideFit, AreOutsideFit}
-use Rattle.std.specs.List.{AllByRecursion}
-use Rattle.std.proofs.Common.{sum, ◌≤◌}
 use Rattle.pooled_cuttings.proofs.closing.push_all_closed.Goals as goal
-
 
 pub push_closed-requires-clause-x : goal.push_closed-requires-clause-x
 push_closed-requires-clause-x c =

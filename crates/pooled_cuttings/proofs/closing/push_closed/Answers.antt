@@ -1,4 +1,4 @@
-use Rattle.std.proofs.Common.{◌≡◌, ◌∙◌, ◌++◌, sym, ap, List, ℕ, refl}
+use Rattle.std.proofs.Common.{◌∙◌, ◌++◌, sym, ap, List, ℕ, refl}
 use Rattle.plain_trees.specs.Coproducts.{Extracted}
 use Rattle.cutting_tables.specs.Keys.{closing}
 use Rattle.pooled_cuttings.specs.Lines.{opened_in, extracted_terms_in}

@@ -1,4 +1,4 @@
-use Rattle.std.proofs.Common.{◌≡◌, sym, ap, ◌∙◌, subst}
+use Rattle.std.proofs.Common.{◌≡◌, sym, ap, ◌∙◌}
 use Rattle.plain_trees.specs.Plain.{root_of}
 use Rattle.tree_pool.specs.Content.{Content, tree_at}
 use Rattle.tree_pool.proofs.Walks.{root_at}

@@ -1,4 +1,4 @@
-use Rattle.std.proofs.Common.{◌≡◌, ◌*◌, ◌∙◌, ◌++◌, sym, ap, List, ℕ}
+use Rattle.std.proofs.Common.{◌*◌, ◌∙◌, ◌++◌, sym, ap, List, ℕ}
 use Rattle.cutting_tables.specs.Keys.{Opened, inside, inside_factor}
 use Rattle.cutting_tables.proofs.Closing.{inside_above}
 use Rattle.pooled_cuttings.specs.Lines.{opened_in, opened_terms_in}

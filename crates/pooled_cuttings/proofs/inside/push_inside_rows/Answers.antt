@@ -1,14 +1,12 @@
-use Rattle.std.proofs.Common.{◌≡◌, ◌∙◌, ◌++◌, ap, refl, List, ℕ}
-use Rattle.pooled_cuttings.specs.Lines.{opened_terms_in, IsOpenLine, IsExtractLine, opened_in, extracted_in}
-use Rattle.pooled_cuttings.proofs.Groves.{grove_refl, grove_trans}
-use Rattle.pooled_cuttings.proofs.Means.{open_line_grown, extract_line_grown, open_lines_grown, extract_lines_grown}
+use Rattle.std.proofs.Common.{◌∙◌, ◌++◌, ap, refl}
+use Rattle.pooled_cuttings.specs.Lines.{opened_terms_in, IsOpenLine, opened_in}
+use Rattle.pooled_cuttings.proofs.Groves.{grove_trans}
+use Rattle.pooled_cuttings.proofs.Means.{open_line_grown, open_lines_grown}
 use Rattle.pooled_cuttings.proofs.Rows.{row_step, row_end, all_at}
 use Rattle.pooled_cuttings.proofs.Loops.{inside_row, inside_rows, inside_rows_parts, inside_row_grown, inside_fits_grown}
-use Rattle.pooled_cuttings.specs.Products.{IsInsideFit, IsOutsideFit, IsBesideFit, AreOutsideFit}
+use Rattle.pooled_cuttings.specs.Products.{IsInsideFit}
 use Rattle.std.specs.List.{AllByRecursion}
-use Rattle.std.proofs.Common.{sum, ◌≤◌}
 use Rattle.pooled_cuttings.proofs.inside.push_inside_rows.Goals as goal
-
 
 pub push_inside_row-requires-clause-step : goal.push_inside_row-requires-clause-step
 push_inside_row-requires-clause-step c =

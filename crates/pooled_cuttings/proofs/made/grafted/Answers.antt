@@ -3,7 +3,7 @@ use Rattle.plain_trees.specs.Plain.{IsSmall}
 use Rattle.plain_trees.specs.Canon.{canon}
 use Rattle.plain_trees.specs.Degree.{HasTypes}
 use Rattle.tree_pool.proofs.Trees.{AreBelow-le}
-use Rattle.pooled_cuttings.proofs.Makings.{edge_to, graft_at, held_as}
+use Rattle.pooled_cuttings.proofs.Makings.{graft_at, held_as}
 use Rattle.pooled_cuttings.proofs.made.grafted.Goals as goal
 
 pub intern_node-requires-clause-known : goal.intern_node-requires-clause-known

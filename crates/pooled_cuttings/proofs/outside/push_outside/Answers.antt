@@ -1,4 +1,4 @@
-use Rattle.std.proofs.Common.{◌≡◌, ◌*◌, ◌∙◌, ◌++◌, sym, ap, List, ℕ}
+use Rattle.std.proofs.Common.{◌*◌, ◌∙◌, ◌++◌, sym, ap, List, ℕ}
 use Rattle.cutting_tables.specs.Keys.{Opened, outside, outside_factor}
 use Rattle.cutting_tables.proofs.Closing.{outside_above}
 use Rattle.pooled_cuttings.specs.Lines.{opened_in, extracted_in, opened_terms_in}

@@ -1,14 +1,12 @@
-use Rattle.std.proofs.Common.{◌≡◌, ◌∙◌, ◌++◌, ap, refl, List, ℕ}
-use Rattle.pooled_cuttings.specs.Lines.{opened_terms_in, IsOpenLine, IsExtractLine, opened_in, extracted_in}
-use Rattle.pooled_cuttings.proofs.Groves.{grove_refl, grove_trans}
-use Rattle.pooled_cuttings.proofs.Means.{open_line_grown, extract_line_grown, open_lines_grown, extract_lines_grown}
+use Rattle.std.proofs.Common.{◌∙◌, ◌++◌, ap, refl}
+use Rattle.pooled_cuttings.specs.Lines.{opened_terms_in}
+use Rattle.pooled_cuttings.proofs.Groves.{grove_trans}
+use Rattle.pooled_cuttings.proofs.Means.{open_lines_grown, extract_lines_grown}
 use Rattle.pooled_cuttings.proofs.Rows.{row_step, row_end, all_at}
 use Rattle.pooled_cuttings.proofs.Loops.{outside_rows, outside_shifts, outside_shifts_parts, outside_rows_grown, outside_all_fits_grown, shift_at, shift_is}
-use Rattle.pooled_cuttings.specs.Products.{IsInsideFit, IsOutsideFit, IsBesideFit, AreOutsideFit}
-use Rattle.std.specs.List.{AllByRecursion}
+use Rattle.pooled_cuttings.specs.Products.{AreOutsideFit}
 use Rattle.std.proofs.Common.{sum, ◌≤◌}
 use Rattle.pooled_cuttings.proofs.outside.push_outside_shifts.Goals as goal
-
 
 pub push_outside_rows-requires-clause-step : goal.push_outside_rows-requires-clause-step
 push_outside_rows-requires-clause-step c =

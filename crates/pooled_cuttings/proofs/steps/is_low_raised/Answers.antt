@@ -1,4 +1,4 @@
-use Rattle.std.proofs.Common.{◌≡◌, ◌+ℤ◌, ◌∙◌, ap, arith, not, pos}
+use Rattle.std.proofs.Common.{◌∙◌, ap, arith, pos}
 use Rattle.std.proofs.lemmas.Int.{ints}
 use Rattle.degree_numbers.specs.declared.degree.Degree.{Degree}
 use Rattle.degree_numbers.specs.declared.types.Types.{Types}

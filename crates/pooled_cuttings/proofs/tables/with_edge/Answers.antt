@@ -1,7 +1,5 @@
-use Rattle.std.proofs.Common.{◌≡◌, ◌∙◌, ap, subst, sym, refl, arith}
-use Rattle.std.proofs.lemmas.Int.{ints}
+use Rattle.std.proofs.Common.{refl}
 use Rattle.plain_trees.specs.Plain.{graft}
-use Rattle.plain_trees.proofs.DegreeBounds.{units_most}
 use Rattle.tree_pool.specs.Content.{tree_at, tree_over}
 use Rattle.cutting_sizes.proofs.Bounded.{bounded_parts, bounded_small}
 use Rattle.cutting_tables.proofs.LowBounds.{lows_within}
