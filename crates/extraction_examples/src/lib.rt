@@ -111,7 +111,8 @@ mod tests {
     const WEAK_KERNEL: &[u8] =
         b"version = 1\nscaling = [1]\n[[noise]]\nname = \"xi\"\ndegree = \"-1/2\"\n[[unknown]]\nname = \"u\"\ndegree = \"1/10\"\nregularity = \"-1/2\"\nright = \"xi\"\n";
 
-    // A line of a table: the coefficient of a forest and a quotient, `None` where it is out of range.
+    // A line of a table: the coefficient of a forest and a quotient, `None` where it is out of
+    // range.
     #[derive(Drop)]
     struct Row<'a> {
         forest: &'a [&'a [u8]],
