@@ -1,5 +1,5 @@
 -- Keys are equal exactly where they mean the same.
-use Rattle.std.proofs.Common.{◌≡◌, ℕ, ◌<◌, Bool, List, [], map, length, slice_get, Some, refl, sym, ap, ◌∙◌}
+use Rattle.std.proofs.Common.{◌≡◌, ℕ, ◌<◌, Bool, List, [], ◌∷◌, map, length, slice_get, Some, refl, sym, ap, ◌∙◌}
 use Rattle.std.specs.Bool.{Decides}
 use Rattle.std.proofs.lemmas.Bool.Decides.{Decides-eqb, Decides-and, Decides-like, same_from_decides}
 use Rattle.std.proofs.lemmas.Option.{slice_get-get_or}
@@ -8,14 +8,28 @@ use Rattle.exact_sums.proofs.CollectedLaws.{same_by_exact}
 use Rattle.plain_trees.specs.Plain.{Plain, bare}
 use Rattle.plain_trees.specs.Coproducts.{Extracted, extracted_order}
 use Rattle.tree_cuttings.proofs.Orders.{extracted_total, extracted_exact}
-use Rattle.tree_pool.specs.Content.{tree_at}
-use Rattle.tree_pool.specs.Forests.{forest_at}
-use Rattle.tree_pool.proofs.ForestLaws.{same_numbers}
+use Rattle.tree_pool.specs.Content.{Content, tree_at, trees_at, IsPooled}
+use Rattle.tree_pool.specs.Forests.{forest_at, AreKnown}
 use Rattle.tree_pool.proofs.Ids.{known_forest}
 use Rattle.pooled_cuttings.specs.declared.ExtractKey.{ExtractKey}
 use Rattle.pooled_cuttings.specs.contracts.keys.ExtractKeyPartialEq.TheImpl.{eq-value}
 use Rattle.pooled_cuttings.specs.Groves.{GroveContent, IsGrove, forest_in}
 use Rattle.pooled_cuttings.specs.Lines.{extracted_in, IsExtractKey}
+
+abbrev both : List Plain → Plain → Extracted
+both fs t = (fs, t)
+
+-- equal trees have equal numbers
+same_numbers : (c : Content) (f g : List ℕ) → IsPooled c → AreKnown c f → AreKnown c g → trees_at c f ≡ trees_at c g → f ≡ g
+same_numbers c [] [] pool h k e = refl
+same_numbers c [] (j ∷ g) pool h k e = absurd cc
+same_numbers c (i ∷ f) [] pool h k e = absurd cc
+same_numbers c (i ∷ f) (j ∷ g) pool h k e =
+    let first : tree_at c i ≡ tree_at c j = cc in
+    let rest : trees_at c f ≡ trees_at c g = cc in
+    let same : i ≡ j = pool.distinct i j (tree_at c j) (slice_get-get_or c.trees i (bare []) h.0 ∙ ap Some first) (slice_get-get_or c.trees j (bare []) k.0) in
+    let tails = same_numbers c f g pool h.1 k.1 rest in
+    ap (λ (x : ℕ). x ∷ f) same ∙ ap (λ (xs : List ℕ). j ∷ xs) tails
 
 module _ (g : GroveContent) (grove : IsGrove g) where
   one_tree : (i j : ℕ) → i < length g.pool.trees → j < length g.pool.trees → tree_at g.pool i ≡ tree_at g.pool j → i ≡ j
@@ -29,9 +43,6 @@ module _ (g : GroveContent) (grove : IsGrove g) where
           same_numbers g.pool (forest_at g.forests i) (forest_at g.forests j) grove.pooled (known_forest g.forests g.pool i grove.fits h)
           (known_forest g.forests g.pool j grove.fits k) e in
       grove.distinct i j (forest_at g.forests j) (slice_get-get_or g.forests i [] h ∙ ap Some same) (slice_get-get_or g.forests j [] k)
-
-  both : List Plain → Plain → Extracted
-  both fs t = (fs, t)
 
   key_decides : (k l : ExtractKey) → IsExtractKey g k → IsExtractKey g l → Decides (eq-value.it k l) (extracted_in g k ≡ extracted_in g l)
   key_decides k l a b =

@@ -1,5 +1,5 @@
 -- What is finished stays so while the trees and forests grow.
-use Rattle.std.proofs.Common.{◌≡◌, ℕ, ℤ, ◌<◌, ◌≤◌, List, [], ◌∷◌, ◌++◌, map, length, refl, sym, ap, ◌∙◌, arith, length-append, append-nil}
+use Rattle.std.proofs.Common.{◌≡◌, ℕ, ℤ, ◌<◌, ◌≤◌, List, [], ◌∷◌, ◌++◌, map, length, refl, sym, ap, ◌∙◌, arith, length-append, append-nil, Option, Some, None, MatchOption}
 use Rattle.std.specs.List.{AllByRecursion}
 use Rattle.std.proofs.Math.ListN.{get_or-append}
 use Rattle.plain_trees.specs.Plain.{Plain}
@@ -14,7 +14,18 @@ use Rattle.pooled_cuttings.specs.Groves.{GroveContent, IsGrove, IsGrownGrove, fo
 use Rattle.pooled_cuttings.specs.Lines.{extracted_in, IsExtractKey}
 use Rattle.extraction_coproduct.specs.declared.term.ExtractTerm.{ExtractTerm}
 use Rattle.extraction_coproduct.specs.Finished.{coproduct_of, IsTerms, AreFinished}
+use Rattle.extraction_coproduct.specs.Memo.{numbers_in}
 use Rattle.extraction_coproduct.specs.Terms.{key_of, terms_in, AreKnownTerms}
+use Rattle.ordered_lists.specs.Members.{IsIn}
+use Rattle.ordered_lists.proofs.Insertion.{all_at_member}
+use Rattle.ordered_lists.proofs.Members.{in_map}
+use denote.Ref.{Bor}
+
+abbrev both : List Plain → Plain → Extracted
+both fs t = (fs, t)
+
+abbrev line : Extracted → ℤ → Extracted × ℤ
+line k c = (k, c)
 
 trees_grown : (c d : Content) (is : List ℕ) → IsGrown c d → AreKnown c is → trees_at d is ≡ trees_at c is
 trees_grown c d [] g a = refl
@@ -41,9 +52,6 @@ module _ (g h : GroveContent) (grove : IsGrove g) (grown : IsGrownGrove g h) whe
   key_grown k a =
       ap (λ (fs : List Plain). both fs (tree_at h.pool k.quotient.0)) (forest_grown k.forest.0 a.forest)
       ∙ ap (λ (t : Plain). both (forest_in g k.forest.0) t) (grown_at g.pool h.pool k.quotient.0 grown.pool a.quotient)
-    where
-      both : List Plain → Plain → Extracted
-      both fs t = (fs, t)
 
   known_key : (k : ExtractKey) → IsExtractKey g k → IsExtractKey h k
   known_key k a =
@@ -61,9 +69,6 @@ module _ (g h : GroveContent) (grove : IsGrove g) (grown : IsGrownGrove g h) whe
   terms_grown (t ∷ ts) a =
       ap (λ (k : Extracted). line k t.coefficient ∷ terms_in h ts) (key_grown (key_of t) a.0)
       ∙ ap (λ (us : List (Extracted × ℤ)). line (extracted_in g (key_of t)) t.coefficient ∷ us) (terms_grown ts a.1)
-    where
-      line : Extracted → ℤ → Extracted × ℤ
-      line k c = (k, c)
 
   finished_terms : (i : ℕ) (ts : List ExtractTerm) → IsTerms g i ts → IsTerms h i ts
   finished_terms i ts a =
@@ -78,3 +83,21 @@ module _ (g h : GroveContent) (grove : IsGrove g) (grown : IsGrownGrove g h) whe
   pub finished_grown : (fs : List (ℕ × List ExtractTerm)) → AreFinished g fs → AreFinished h fs
   finished_grown [] a = tt
   finished_grown (f ∷ fs) a = (finished_terms f.0 f.1 a.0, finished_grown fs a.1)
+
+-- what is finished, by number
+module _ (g : GroveContent) where
+  pub finished_known : (fs : List (ℕ × List ExtractTerm)) → AreFinished g fs → AllByRecursion (λ i. i < length g.pool.trees) (numbers_in fs)
+  finished_known [] a = tt
+  finished_known (f ∷ fs) a = (a.0.tree, finished_known fs a.1)
+
+  pub found_terms : (fs : List (ℕ × List ExtractTerm)) (i : ℕ) → AreFinished g fs → (r : Option (Bor (List ExtractTerm))) →
+      MatchOption r (IsIn i (numbers_in fs) → ⊥) (λ ts. IsIn (i, ts.now) fs) →
+      MatchOption r (IsIn i (numbers_in fs) → ⊥) (λ ts. IsIn i (numbers_in fs) × IsTerms g i ts.now)
+  found_terms fs i a None h = h
+  found_terms fs i a (Some v) h =
+      (in_map (λ (f : ℕ × List ExtractTerm). f.0) (i, v.now) fs h, all_at_member (λ (f : ℕ × List ExtractTerm). IsTerms g f.0 f.1) fs (i, v.now) a h)
+
+  pub finished_push : (fs : List (ℕ × List ExtractTerm)) (i : ℕ) (ts : List ExtractTerm) → AreFinished g fs → IsTerms g i ts →
+      AreFinished g (fs ++ (i, ts) ∷ [])
+  finished_push [] i ts a h = (h, tt)
+  finished_push (f ∷ fs) i ts a h = (a.0, finished_push fs i ts a.1 h)

@@ -38,6 +38,9 @@ rekeyed-map : {K J : Type 0} (h : K → J) (ts : List (K × ℕ)) → rekeyed h 
 rekeyed-map h [] = refl
 rekeyed-map {K} {J} h (t ∷ ts) = ap (λ (us : List (J × ℕ)). (h t.0, t.1) ∷ us) (rekeyed-map h ts)
 
+abbrev IsLine : GroveContent → ExtractKey × ℕ → Type 0
+IsLine g l = IsExtractKey g l.0 × (0 < l.1) × (l.1 ≤ overflow)
+
 module _ (g : GroveContent) where
   known_of : (ls : List (ExtractKey × ℕ)) → AreExtractLines g ls → AllByRecursion (λ (l : ExtractKey × ℕ). IsExtractKey g l.0) ls
   known_of [] a = tt
@@ -60,11 +63,7 @@ module _ (g : GroveContent) where
   -- the lines in another order
   pub lines_permuted : (xs ys : List (ExtractKey × ℕ)) → IsPermutation xs ys → AreExtractLines g xs → AreExtractLines g ys
   lines_permuted xs ys p a =
-      recursion_from_All IsLine ys (All-permutation IsLine xs ys p (All-from_recursion IsLine xs a))
-    where
-      abbrev IsLine : ExtractKey × ℕ → Type 0
-      IsLine l = IsExtractKey g l.0 × (0 < l.1) × (l.1 ≤ overflow)
-
+      recursion_from_All (IsLine g) ys (All-permutation (IsLine g) xs ys p (All-from_recursion (IsLine g) xs a))
   sums_permuted : (xs ys : List (ExtractKey × ℕ)) → IsPermutation xs ys → AreSameExtracted (extracted_terms_in g ys) (extracted_terms_in g xs)
   sums_permuted xs ys p = λ k.
       let f : ExtractKey × ℕ → Extracted × ℕ = λ l. (extracted_in g l.0, l.1) in

@@ -1,5 +1,5 @@
 -- Terms by the numbers of their trees, in a map.
-use Rattle.std.proofs.Common.{◌≡◌, ℕ, Bool, true, false, cond, List, [], ◌∷◌, ◌++◌, map, Option, Some, None, refl, sym, ap, ◌∙◌, inl, inr}
+use Rattle.std.proofs.Common.{◌≡◌, ℕ, Bool, true, false, cond, List, [], ◌∷◌, ◌++◌, map, Option, Some, None, refl, sym, ap, ◌∙◌, inl, inr, MatchOption}
 use Rattle.std.specs.Bool.{Decides}
 use Rattle.std.specs.Map.{lookup}
 use Rattle.std.proofs.lemmas.List.{map-append}
@@ -12,11 +12,11 @@ use denote.Ref.{Bor}
 abbrev pub Kept : Type 0
 Kept = TreeId × Bor (List ExtractTerm)
 
-pair : ℕ → List ExtractTerm → ℕ × List ExtractTerm
+abbrev pair : ℕ → List ExtractTerm → ℕ × List ExtractTerm
 pair i ts = (i, ts)
 
 module _ (test : TreeId → Bool) (i : ℕ) (decides : (k : TreeId) → Decides (test k) (i ≡ k.0)) where
-  pub found_in : (es : List Kept) (v : Bor (List ExtractTerm)) → lookup test es ≡ Some v → IsIn (i, v.now) (memo_of es)
+  found_in : (es : List Kept) (v : Bor (List ExtractTerm)) → lookup test es ≡ Some v → IsIn (i, v.now) (memo_of es)
   found_in [] v e = absurd cc
   found_in (x ∷ xs) v e =
       (elim (test x.0) as (λ b. test x.0 ≡ b → cond b (Some x.1) (lookup test xs) ≡ Some v → IsIn (i, v.now) (memo_of (x ∷ xs))) [
@@ -26,7 +26,7 @@ module _ (test : TreeId → Bool) (i : ℕ) (decides : (k : TreeId) → Decides 
         | false ↦ λ t h. inr (found_in xs v h)
       ]) refl e
 
-  pub missing_in : (es : List Kept) → lookup test es ≡ None → IsIn i (numbers_in (memo_of es)) → ⊥
+  missing_in : (es : List Kept) → lookup test es ≡ None → IsIn i (numbers_in (memo_of es)) → ⊥
   missing_in [] e h = h
   missing_in (x ∷ xs) e h =
       (elim (test x.0) as (λ b. test x.0 ≡ b → cond b (Some x.1) (lookup test xs) ≡ None → ⊥) [
@@ -44,6 +44,11 @@ module _ (test : TreeId → Bool) (i : ℕ) (decides : (k : TreeId) → Decides 
         | true ↦ λ t. absurd (h (inl (sym ((decides x.0).0 t))))
         | false ↦ λ t. lookup-missing xs (λ there. h (inr there))
       ]) refl
+
+  pub looked_up : (es : List Kept) (r : Option (Bor (List ExtractTerm))) → r ≡ lookup test es →
+      MatchOption r (IsIn i (numbers_in (memo_of es)) → ⊥) (λ ts. IsIn (i, ts.now) (memo_of es))
+  looked_up es None e = missing_in es (sym e)
+  looked_up es (Some v) e = found_in es v (sym e)
 
 pub memo_of-push : (es : List Kept) (k : TreeId) (v : Bor (List ExtractTerm)) → memo_of (es ++ (k, v) ∷ []) ≡ memo_of es ++ (k.0, v.now) ∷ []
 memo_of-push es k v = map-append (λ (e : Kept). (e.0.0, e.1.now)) es ((k, v) ∷ [])

@@ -1,5 +1,7 @@
 -- Terms that are made of lines.
-use Rattle.std.proofs.Common.{◌≡◌, ℕ, ℤ, pos, ◌<◌, List, [], ◌∷◌, map, length, refl, ap, ◌∙◌}
+use Rattle.std.proofs.Common.{◌≡◌, ℕ, ℤ, pos, ◌+◌, ◌<◌, List, [], ◌∷◌, ◌++◌, map, drop, length, get_or, refl, sym, ap, ◌∙◌, append_assoc, arith}
+use Rattle.std.proofs.lemmas.Grind.{common_steps}
+use Rattle.std.proofs.lemmas.List.Elements.{All-from_recursion}
 use Rattle.exact_sums.specs.Saturating.{overflow}
 use Rattle.exact_sums.specs.Keyed.{rekeyed, saturated_terms}
 use Rattle.plain_trees.specs.Coproducts.{Extracted}
@@ -7,6 +9,7 @@ use Rattle.cutting_tables.proofs.Collecting.{values_in_range, range_of_values}
 use Rattle.pooled_cuttings.specs.declared.ExtractKey.{ExtractKey}
 use Rattle.pooled_cuttings.specs.Groves.{GroveContent}
 use Rattle.pooled_cuttings.specs.Lines.{extracted_in, extracted_terms_in, AreExtractLines}
+use Rattle.extraction_coproduct.specs.declared.term.ExtractTerm.{ExtractTerm}
 use Rattle.extraction_coproduct.specs.Finished.{coproduct_of, IsTerms}
 use Rattle.extraction_coproduct.specs.Terms.{terms_in, whole_terms, AreKnownTerms, AreInRange, term_of}
 
@@ -44,3 +47,24 @@ module _ (g : GroveContent) (i : ℕ) (ls : List (ExtractKey × ℕ))
   -- where the coefficients are in range, the values are
   pub lines_in_range : AreInRange (coproduct_of g.pool i) → AreInRange ls
   lines_in_range range = range_back (extracted_in g) ls (rw are (range_of_values (coproduct_of g.pool i) range))
+
+-- lines that are gone through one by one
+abbrev Line : Type 0
+Line = ExtractKey × ℕ
+
+lines_left : (ls : List Line) (i : ℕ) (d : Line) → i < length ls → drop i ls ≡ get_or ls i d ∷ drop (i + 1) ls
+lines_left ls i d h = grind (arith, common_steps)
+
+module _ (ls : List Line) (i : ℕ) (l : Line) (within : i < length ls) (at : l ≡ get_or ls i l) where
+  cut : drop i ls ≡ l ∷ drop (i + 1) ls
+  cut = lines_left ls i l within ∙ ap (λ (k : Line). k ∷ drop (i + 1) ls) (sym at)
+
+  pub one_term : (ts : List ExtractTerm) → ts ++ map term_of (drop i ls) ≡ map term_of ls →
+      (ts ++ term_of l ∷ []) ++ map term_of (drop (i + 1) ls) ≡ map term_of ls
+  one_term ts e = append_assoc ts (term_of l ∷ []) (map term_of (drop (i + 1) ls)) ∙ (rw cut at e)
+
+  pub one_value : l.1 < overflow → (AreInRange (drop i ls) → AreInRange ls) → AreInRange (drop (i + 1) ls) → AreInRange ls
+  one_value below h rest = h (rw cut (below, rest))
+
+  pub value_in_range : AreInRange ls → l.1 < overflow
+  value_in_range range = rw at (All-from_recursion (λ (k : Line). k.1 < overflow) ls range i l within)

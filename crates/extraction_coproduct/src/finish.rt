@@ -1,5 +1,6 @@
 // From the lines of a table to the terms of the coproduct.
-ghost use Rattle.std.specs.Prelude.{◌≡◌, ◌<◌, length, map, IfOk, IfErr, OnOk};
+ghost use Rattle.std.specs.Prelude.{◌≡◌, ◌<◌, ◌≤◌, ◌++◌, ◌∷◌, [], length, map, IfOk, IfErr, OnOk, MatchOption};
+ghost use Rattle.exact_sums.specs.Saturating.{overflow};
 ghost use Rattle.std.specs.List.Sorted.{IsSorted, IsPermutation};
 ghost use Rattle.exact_sums.specs.Keyed.{keys, saturated_terms, IsCollected};
 ghost use Rattle.plain_trees.specs.Coproducts.{extracted_order};
@@ -18,7 +19,7 @@ use crate::term::ExtractTerm;
 use exact_sums::{Saturated, join_equal};
 use extraction_tables::closed_table;
 use pooled_cuttings::{ExtractKey, Grove};
-use std::alloc::Global;
+use std::alloc::{AllocError, Global};
 use std::cmp::Ordering;
 use tree_pool::{PoolError, TreeId};
 
@@ -50,6 +51,7 @@ fn collect_lines(grove: &Grove<'_>, lines: &mut Vec<(ExtractKey, Saturated)>)
     ensures collected { IsCollected extracted_order
         (extracted_terms_in grove.now lines.new.items) }
 {
+    grove.laws();
     sort_lines(grove, lines);
     join_equal(lines);
 }
@@ -68,9 +70,29 @@ pub fn coproduct_lines(
         ≡ saturated_terms (coproduct_of grove.old.pool id.0)) }
     ensures grown { IsGrownGrove grove.old grove.new }
 {
+    grove.laws();
     let mut lines = closed_table(grove, alloc, id)?;
     collect_lines(grove, &mut lines);
     Ok(lines)
+}
+
+/// The term of a line, where its coefficient is in range.
+fn term_of(line: &(ExtractKey, Saturated)) -> Option<ExtractTerm>
+    ensures { MatchOption result (overflow ≤ line.now.1) (λ t. (t ≡ term_of line.now) × (line.now.1 < overflow)) }
+{
+    Some(ExtractTerm {
+        coefficient: line.1.value()?,
+        forest: line.0.forest,
+        quotient: line.0.quotient,
+    })
+}
+
+/// Puts a term behind others.
+fn push_term(terms: &mut Vec<ExtractTerm>, term: ExtractTerm) -> Result<(), AllocError>
+    ensures { OnOk result (terms.new.items ≡ terms.old.items ++ term ∷ []) }
+{
+    terms.push(term)?;
+    Ok(())
 }
 
 /// The terms of these lines; or the refusal, where a coefficient is out of range.
@@ -83,13 +105,11 @@ pub fn terms_of(
     ensures refusal { IfErr result (λ e. e ≡ CoefficientTooLarge → AreInRange lines.now → ⊥) }
 {
     let mut terms = Vec::new(alloc);
-    for (key, value) in lines {
-        let coefficient = value.value().ok_or(CoproductError::CoefficientTooLarge)?;
-        terms.push(ExtractTerm {
-            coefficient,
-            forest: key.forest,
-            quotient: key.quotient,
-        })?;
+    for line in lines {
+        let Some(term) = term_of(line) else {
+            return Err(CoproductError::CoefficientTooLarge);
+        };
+        push_term(&mut terms, term)?;
     }
     Ok(terms)
 }

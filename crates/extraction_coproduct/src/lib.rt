@@ -2,8 +2,11 @@
 #![tactic(auto)]
 
 mod error;
+mod finish;
 mod memo;
+mod tables;
 mod term;
 
 pub use error::CoproductError;
+pub use tables::Tables;
 pub use term::{ExtractTerm, Work};

@@ -58,15 +58,12 @@ impl<'a> Tables<'a> {
         pool: Pool<'a>,
     ) -> Result<Tables<'a>, CoproductError>
         requires { pool.types ≡ types.now }
-        ensures { IfOk result (λ t. t ≡ record { pool = pool; forests = []; finished = [] }) }
+        ensures { IfOk result (λ t. t ≡ record { pool = pool.entry; forests = []; finished = [] }) }
     {
         let _ = types;
         let grove = Grove::new(alloc, arena, pool)?;
-        Ok(Tables {
-            arena,
-            grove,
-            memo: Memo::new(alloc),
-        })
+        let memo = Memo::new(alloc);
+        Ok(Tables { arena, grove, memo })
     }
 
     /// The trees. Takes no memory.
@@ -120,6 +117,7 @@ impl<'a> Tables<'a> {
         ensures grown { AreGrown self.old self.new }
         ensures finished { self.new.finished ≡ self.old.finished }
     {
+        self.grove.laws();
         self.grove.forest(alloc, ids)
     }
 
@@ -145,6 +143,7 @@ impl<'a> Tables<'a> {
         ensures grown { AreGrown self.old self.new }
         ensures finished { self.new.finished ≡ self.old.finished }
     {
+        self.grove.laws();
         coproduct_lines(&mut self.grove, alloc, id)
     }
 
@@ -158,7 +157,8 @@ impl<'a> Tables<'a> {
         ensures finished { OnOk result (self.new.finished ≡ self.old.finished ++ id.0 ∷ []) }
         ensures unchanged { OnErr result (self.new.finished ≡ self.old.finished) }
     {
-        self.memo.push(self.arena, id, terms)
+        let kept = self.memo.push(self.arena, id, terms)?;
+        Ok(kept)
     }
 
     /// The terms of the extraction coproduct of a tree (after Bruned, Hairer and Zambotti), each once, ordered by forest, then quotient, in tree order.
