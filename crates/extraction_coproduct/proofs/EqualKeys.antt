@@ -40,18 +40,19 @@ module _ (g : GroveContent) (grove : IsGrove g) where
   one_forest : (i j : ℕ) → i < length g.forests → j < length g.forests → forest_in g i ≡ forest_in g j → i ≡ j
   one_forest i j h k e =
       let same : forest_at g.forests i ≡ forest_at g.forests j =
-          same_numbers g.pool (forest_at g.forests i) (forest_at g.forests j) grove.pooled (known_forest g.forests g.pool i grove.fits h)
-          (known_forest g.forests g.pool j grove.fits k) e in
+      same_numbers g.pool (forest_at g.forests i) (forest_at g.forests j) grove.pooled (known_forest g.forests g.pool i grove.fits h)
+      (known_forest g.forests g.pool j grove.fits k) e in
       grove.distinct i j (forest_at g.forests j) (slice_get-get_or g.forests i [] h ∙ ap Some same) (slice_get-get_or g.forests j [] k)
 
   key_decides : (k l : ExtractKey) → IsExtractKey g k → IsExtractKey g l → Decides (eq-value.it k l) (extracted_in g k ≡ extracted_in g l)
   key_decides k l a b =
       Decides-like _
       (λ (h : (k.forest.0 ≡ l.forest.0) × (k.quotient.0 ≡ l.quotient.0)).
-          ap (λ (i : ℕ). both (forest_in g i) (tree_at g.pool k.quotient.0)) h.0 ∙ ap (λ (i : ℕ). both (forest_in g l.forest.0) (tree_at g.pool i)) h.1)
-      (λ (e : extracted_in g k ≡ extracted_in g l).
-          (one_forest k.forest.0 l.forest.0 a.forest b.forest (ap (λ (x : Extracted). x.0) e),
-          one_tree k.quotient.0 l.quotient.0 a.quotient b.quotient (ap (λ (x : Extracted). x.1) e)))
+      ap (λ (i : ℕ). both (forest_in g i) (tree_at g.pool k.quotient.0)) h.0 ∙ ap (λ (i : ℕ). both (forest_in g l.forest.0) (tree_at g.pool i)) h.1)
+      (λ (e : extracted_in g k ≡ extracted_in g l). (
+        one_forest k.forest.0 l.forest.0 a.forest b.forest (ap (λ (x : Extracted). x.0) e),
+        one_tree k.quotient.0 l.quotient.0 a.quotient b.quotient (ap (λ (x : Extracted). x.1) e),
+      ))
       (Decides-and _ _ (Decides-eqb k.forest.0 l.forest.0) (Decides-eqb k.quotient.0 l.quotient.0))
 
   meaning_decides : (x y : Extracted) → Decides (same_by extracted_order x y) (x ≡ y)
