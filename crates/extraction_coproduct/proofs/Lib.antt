@@ -1,5 +1,4 @@
 pub mod Coproducts
-pub mod EqualKeys
 pub mod Grown
 pub mod Lines
 pub mod Memos
