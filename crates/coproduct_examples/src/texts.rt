@@ -60,12 +60,7 @@ fn put_trees(alloc: Global, out: &mut Vec<u8>, tables: &Tables<'_>, ids: &[TreeI
 
 /// Puts a term behind others, on a line of its own: the coefficient, the trees of the forest, the
 /// quotient.
-fn put_term(
-    alloc: Global,
-    out: &mut Vec<u8>,
-    tables: &Tables<'_>,
-    term: &ExtractTerm,
-) -> Option<()>
+fn put_term(alloc: Global, out: &mut Vec<u8>, tables: &Tables<'_>, term: &ExtractTerm) -> Option<()>
     requires { IsExtractKey (grove_of tables.now) (key_of term.now) }
 {
     let coefficient = term.coefficient;
@@ -138,19 +133,22 @@ mod tests {
     #[test]
     fn forests_of_one_and_of_two_noises(rt: HostRuntime) {
         let types = apart_types(rt.alloc()).expect(&rt, "types");
-        let terms = b"1 {} | [u[xi]*u[eta]]\n1 {[xi]} | [u[]*u[eta]]\n1 {[eta]} | [u[]*u[xi]]\n1 {[u[xi]*u[eta]]} | []\n1 {[xi][eta]} | [u[]*u[]]\n";
+        let terms =
+            b"1 {} | [u[xi]*u[eta]]\n1 {[xi]} | [u[]*u[eta]]\n1 {[eta]} | [u[]*u[xi]]\n1 {[u[xi]*u[eta]]} | []\n1 {[xi][eta]} | [u[]*u[]]\n";
         assert!(rt; has_terms(rt.alloc(), &types, b"[u[xi]*u[eta]]", terms));
     }
 
     #[test]
     fn equal_noises_are_cut_in_two_ways(rt: HostRuntime) {
         let types = phi43_types(rt.alloc()).expect(&rt, "types");
-        let terms = b"1 {} | [u[xi]*u[xi]]\n2 {[xi]} | [u[]*u[xi]]\n1 {[u[xi]*u[xi]]} | []\n1 {[xi][xi]} | [u[]*u[]]\n";
+        let terms =
+            b"1 {} | [u[xi]*u[xi]]\n2 {[xi]} | [u[]*u[xi]]\n1 {[u[xi]*u[xi]]} | []\n1 {[xi][xi]} | [u[]*u[]]\n";
         assert!(rt; has_terms(rt.alloc(), &types, b"[u[xi]*u[xi]]", terms));
     }
 
     // One direction of scaling 1, a noise of degree -1/2, a kernel of degree 1/10.
-    const DECORATED: &[u8] = b"version = 1\nscaling = [1]\n[[noise]]\nname = \"xi\"\ndegree = \"-1/2\"\n[[unknown]]\nname = \"u\"\ndegree = \"1/10\"\nregularity = \"-1/2\"\nright = \"xi\"\n";
+    const DECORATED: &[u8] =
+        b"version = 1\nscaling = [1]\n[[noise]]\nname = \"xi\"\ndegree = \"-1/2\"\n[[unknown]]\nname = \"u\"\ndegree = \"1/10\"\nregularity = \"-1/2\"\nright = \"xi\"\n";
 
     #[test]
     fn a_coefficient_of_multinomials_is_in_range_or_not(rt: HostRuntime) {

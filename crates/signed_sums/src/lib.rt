@@ -1,0 +1,8 @@
+//! Formal sums with whole numbers as coefficients.
+#![tactic(auto)]
+
+mod laws;
+mod sums;
+
+pub use laws::sorted_sums;
+pub use sums::{size, sum_of_neighbours};
