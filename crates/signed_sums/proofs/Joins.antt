@@ -118,6 +118,7 @@ module _ {K : Type 0} where
       ]
 
   ascending_kept : (cmp : K → K → Ordering) (q : K × ℤ → Bool) (ts : List (K × ℤ)) → IsStrictlySortedBy cmp (keys ts) → IsStrictlySortedBy cmp (keys (filter q ts))
+  unfolding IsStrictlySortedBy
   ascending_kept cmp q [] s = tt
   ascending_kept cmp q (t ∷ ts) s =
       elim (q t) as (λ b. IsStrictlySortedBy cmp (keys (cond b (t ∷ filter q ts) (filter q ts)))) [
