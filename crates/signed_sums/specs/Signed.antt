@@ -8,8 +8,9 @@
 --   without_zeros ts == the terms with a coefficient that is not 0
 --   IsSumOf cmp us ts == ts is the sum of the terms us: each key once, in ascending order, with the
 --       sum of its coefficients, where that is not 0; and it is no larger
+--   is_below z == z is below 0
 --   product_of zs, size_of_product zs == the product of whole numbers, that of their absolute values
-use Rattle.std.specs.Prelude.{◌≡◌, ◌≢◌, ℕ, ◌≤◌, ◌*◌, ◌==◌, ℤ, pos, ◌+ℤ◌, ◌*ℤ◌, unsigned_abs, Bool, not, cond, List, [], ◌∷◌, map, filter}
+use Rattle.std.specs.Prelude.{◌≡◌, ◌≢◌, ℕ, ◌≤◌, ◌*◌, ◌==◌, ℤ, pos, negsuc, ◌+ℤ◌, ◌*ℤ◌, unsigned_abs, Bool, true, false, not, cond, List, [], ◌∷◌, map, filter}
 use Rattle.std.specs.List.{AllByRecursion}
 use Rattle.std.specs.List.Sorted.{IsStrictlySortedBy}
 use Rattle.std.specs.declared.cmp.Ordering.{Ordering}
@@ -47,6 +48,10 @@ pub record IsSumOf {K : Type 0} (cmp : K → K → Ordering) (us ts : List (K ×
   pub coefficients : HaveSameCoefficients (same_by cmp) ts us
   pub nonzero : AllByRecursion (λ t. t.1 ≢ pos 0) ts
   pub size : size_of ts ≤ size_of us
+
+abbrev pub is_below : ℤ → Bool
+is_below (pos n) = false
+is_below (negsuc n) = true
 
 abbrev pub product_of : List ℤ → ℤ
 product_of [] = pos 1
