@@ -43,7 +43,9 @@ fn put_tree(alloc: Global, out: &mut Vec<u8>, tables: &Tables<'_>, id: TreeId) -
 {
     let pool = tables.pool();
     pool.laws();
-    let tree = pool.plain(alloc, id).ok()?;
+    let Ok(tree) = pool.plain(alloc, id) else {
+        return None;
+    };
     let text = print_tree(alloc, pool.types(), &tree).ok()?;
     out.extend_from_slice(text.as_slice()).ok()
 }
