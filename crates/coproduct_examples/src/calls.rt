@@ -1,5 +1,5 @@
 // Several calls on the same tables.
-use crate::texts::interned;
+use crate::asked::{asked, forest_of_two, interned};
 use bumpalo::Bump;
 use extraction_coproduct::{Tables, Work};
 use known_types::kpz_types;
@@ -15,9 +15,9 @@ pub fn work_of_two_calls(alloc: Global) -> Option<([u64; 2], bool)> {
     let id = interned(alloc, &types, &mut pool, b"[X(0,1)*xi]")?;
     let mut tables = Tables::new(alloc, &arena, &types, pool).ok()?;
     let mut work = Work { tables: 0 };
-    let first = tables.coproduct(alloc, id, &mut work).ok()?;
+    let first = asked(alloc, &mut tables, id, &mut work)?.ok()?;
     let after_first = work.tables;
-    let second = tables.coproduct(alloc, id, &mut work).ok()?;
+    let second = asked(alloc, &mut tables, id, &mut work)?.ok()?;
     Some(([after_first, work.tables], first == second))
 }
 
@@ -31,9 +31,9 @@ pub fn work_of_two_trees(alloc: Global) -> Option<[u64; 2]> {
     let whole = interned(alloc, &types, &mut pool, b"[u'(0,1)[xi]*u'(0,1)[xi]]")?;
     let mut tables = Tables::new(alloc, &arena, &types, pool).ok()?;
     let mut work = Work { tables: 0 };
-    tables.coproduct(alloc, whole, &mut work).ok()?;
+    asked(alloc, &mut tables, whole, &mut work)?.ok()?;
     let after_first = work.tables;
-    tables.coproduct(alloc, part, &mut work).ok()?;
+    asked(alloc, &mut tables, part, &mut work)?.ok()?;
     Some([after_first, work.tables])
 }
 
@@ -45,8 +45,8 @@ pub fn forest_in_both_orders(alloc: Global) -> Option<[ForestId; 2]> {
     let first = interned(alloc, &types, &mut pool, b"[X(0,1)*xi]")?;
     let second = interned(alloc, &types, &mut pool, b"[xi]")?;
     let mut tables = Tables::new(alloc, &arena, &types, pool).ok()?;
-    let one = tables.forest(alloc, &[first, second]).ok()?;
-    let other = tables.forest(alloc, &[second, first]).ok()?;
+    let one = forest_of_two(alloc, &mut tables, first, second)?;
+    let other = forest_of_two(alloc, &mut tables, second, first)?;
     Some([one, other])
 }
 

@@ -1,6 +1,7 @@
 //! Examples of extraction coproducts.
 #![tactic(auto)]
 
+mod asked;
 mod calls;
 mod slices;
 mod texts;

@@ -1,5 +1,5 @@
 // Terms in an arena, read when the tables that gave them are gone. None can be kept past the arena: `.ci/loans` tries to.
-use crate::texts::interned;
+use crate::asked::{asked, interned};
 use bumpalo::Bump;
 use extraction_coproduct::{Tables, Work};
 use known_types::kpz_types;
@@ -14,7 +14,7 @@ pub fn terms_without_tables(alloc: Global) -> Option<usize> {
     let id = interned(alloc, &types, &mut pool, b"[X(0,1)*xi]")?;
     let mut tables = Tables::new(alloc, &arena, &types, pool).ok()?;
     let mut work = Work { tables: 0 };
-    let terms = tables.coproduct(alloc, id, &mut work).ok()?;
+    let terms = asked(alloc, &mut tables, id, &mut work)?.ok()?;
     drop(tables);
     Some(terms.len())
 }

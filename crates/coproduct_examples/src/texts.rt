@@ -1,41 +1,15 @@
 // The terms of extraction coproducts as texts.
-ghost use Rattle.std.specs.Prelude.{◌≡◌, ◌<◌, length, IfSome};
+ghost use Rattle.std.specs.Prelude.{◌<◌, length};
 ghost use Rattle.degree_numbers.specs.Types.{AreTypes};
-ghost use Rattle.tree_pool.specs.Content.{tree_at};
-ghost use Rattle.cutting_sizes.specs.Bounds.{IsBounded};
-ghost use Rattle.pooled_cuttings.specs.Lines.{IsExtractKey};
-ghost use Rattle.extraction_coproduct.specs.Finished.{grove_of};
-ghost use Rattle.extraction_coproduct.specs.Terms.{key_of};
 
+use crate::asked::{asked, interned};
 use bumpalo::Bump;
 use degree_numbers::Types;
 use equation_file::read_equation;
 use extraction_coproduct::{CoproductError, ExtractTerm, Tables, Work};
-use plain_trees::{print_tree, read_tree};
+use plain_trees::print_tree;
 use std::alloc::Global;
 use tree_pool::{Pool, TreeId};
-
-/// The number in a pool of the tree with this text, where it has at most 24 edges and a decoration
-/// sum of at most 64.
-pub fn interned(alloc: Global, types: &Types, pool: &mut Pool<'_>, text: &[u8]) -> Option<TreeId>
-    requires accepted { AreTypes types.now }
-    requires types { pool.old.types ≡ types.now }
-    ensures types { pool.new.types ≡ types.now }
-    ensures known { IfSome result (λ id. id.0 < length pool.new.trees) }
-    ensures bounded { IfSome result (λ id. IsBounded (tree_at pool.new id.0)) }
-{
-    let tree = read_tree(alloc, types, text, 64).ok()?;
-    let id = pool.intern_tree(alloc, &tree).ok()?;
-    is_fit(pool, id).then_some(id)
-}
-
-/// Whether a tree has at most 24 edges and a decoration sum of at most 64.
-fn is_fit(pool: &Pool<'_>, id: TreeId) -> bool
-    requires { id.0 < length pool.now.trees }
-    ensures { result ≡ true → IsBounded (tree_at pool.now id.0) }
-{
-    pool.edge_count(id) <= 24 && pool.decoration_sum(id) <= 64
-}
 
 /// Puts the text of a tree behind others.
 fn put_tree(alloc: Global, out: &mut Vec<u8>, tables: &Tables<'_>, id: TreeId) -> Option<()>
@@ -62,9 +36,15 @@ fn put_trees(alloc: Global, out: &mut Vec<u8>, tables: &Tables<'_>, ids: &[TreeI
 
 /// Puts a term behind others, on a line of its own: the coefficient, the trees of the forest, the
 /// quotient.
-fn put_term(alloc: Global, out: &mut Vec<u8>, tables: &Tables<'_>, term: &ExtractTerm) -> Option<()>
-    requires { IsExtractKey (grove_of tables.now) (key_of term.now) }
-{
+fn put_term(
+    alloc: Global,
+    out: &mut Vec<u8>,
+    tables: &Tables<'_>,
+    term: &ExtractTerm,
+) -> Option<()> {
+    if term.forest.0 >= tables.forests().len() || term.quotient.0 >= tables.pool().len() {
+        return None;
+    }
     let coefficient = term.coefficient;
     let front = format!(in alloc; "{coefficient} {{").ok()?;
     out.extend_from_slice(front.as_bytes()).ok()?;
@@ -72,6 +52,25 @@ fn put_term(alloc: Global, out: &mut Vec<u8>, tables: &Tables<'_>, term: &Extrac
     out.extend_from_slice(b"} | ").ok()?;
     put_tree(alloc, out, tables, term.quotient)?;
     out.push(b'\n').ok()
+}
+
+/// The terms of a tree, one a line; or the refusal.
+fn terms_text(
+    alloc: Global,
+    tables: &mut Tables<'_>,
+    id: TreeId,
+) -> Option<Result<Vec<u8>, CoproductError>> {
+    let mut work = Work { tables: 0 };
+    match asked(alloc, tables, id, &mut work)? {
+        Ok(terms) => {
+            let mut out = Vec::new(alloc);
+            for term in terms {
+                put_term(alloc, &mut out, tables, term)?;
+            }
+            Some(Ok(out))
+        }
+        Err(refusal) => Some(Err(refusal)),
+    }
 }
 
 /// The terms of the coproduct of the tree with this text, one a line; or the refusal.
@@ -86,17 +85,7 @@ pub fn coproduct_text(
     let mut pool = Pool::new(alloc, &arena, types).ok()?;
     let id = interned(alloc, types, &mut pool, text)?;
     let mut tables = Tables::new(alloc, &arena, types, pool).ok()?;
-    let mut work = Work { tables: 0 };
-    match tables.coproduct(alloc, id, &mut work) {
-        Ok(terms) => {
-            let mut out = Vec::new(alloc);
-            for term in terms {
-                put_term(alloc, &mut out, &tables, term)?;
-            }
-            Some(Ok(out))
-        }
-        Err(refusal) => Some(Err(refusal)),
-    }
+    terms_text(alloc, &mut tables, id)
 }
 
 /// The same, on the types of the equation that a file writes down.
