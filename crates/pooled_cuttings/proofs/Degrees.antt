@@ -10,6 +10,7 @@ use Rattle.degree_numbers.specs.declared.types.Types.{Types}
 use Rattle.degree_numbers.specs.Degree.{IsWithin}
 use Rattle.degree_numbers.specs.Types.{AreTypes, size_in_units}
 use Rattle.degree_numbers.specs.Multi.{scaled_size}
+use Rattle.degree_numbers.proofs.ScaledSizes.{scaled_size_most}
 use Rattle.plain_trees.specs.Plain.{Plain, bare, graft}
 use Rattle.plain_trees.specs.Degree.{degree_of, edge_degree_of}
 use Rattle.plain_trees.proofs.DegreeBounds.{units_most, scaling_most, small_a, small_edge_a}
@@ -53,3 +54,26 @@ true_low a most h =
 -- degrees of trees of a pool
 pub pool_degree : (c : Content) (i : ℕ) → IsPooled c → i < length c.trees → IsWithin (degree_of c.types (tree_at c i)).a 100000000000
 pool_degree c i pool h = small_a c.types (tree_at c i) pool.types (pool.kept i (tree_at c i) (slice_get-get_or c.trees i (bare []) h)).small
+
+pub low_by : (a b most : ℤ) → a ≡ b → not (is_gt (int_cmp a most)) ≡ not (is_gt (int_cmp b most))
+low_by a b most e = ap (λ (z : ℤ). not (is_gt (int_cmp z most))) e
+
+pub shift_within : (ty : Types) (s : List ℕ) → AreTypes ty → sum s ≤ 8192 → size_in_units ty s ≤ 81920000000
+shift_within ty s h b = shift_most ty (scaled_size ty.scaling s) (sum s) h (scaled_size_most ty.scaling s (scaling_most ty h)) b
+
+pub low_goal : (b : Bool) (o : Ordering) (a z most : ℤ) → b ≡ is_gt o → o ≡ int_cmp a most → a ≡ z → not b ≡ not (is_gt (int_cmp z most))
+low_goal b o a z most h k e = ap not (h ∙ ap is_gt k) ∙ low_by a z most e
+
+pub not_low : (a most : ℤ) → not (is_gt (int_cmp a most)) ≡ false → most <ℤ a
+not_low a most h =
+    (elim (int_cmp a most) as (λ o. Ranked a most o → not (is_gt o) ≡ false → most <ℤ a) [
+      | Less ↦ λ r e. absurd cc
+      | Equal ↦ λ r e. absurd cc
+      | Greater ↦ λ r e. r
+    ]) (ranked a most) h
+
+pub low_same : (b : Bool) (ty u : Types) (m n : ℤ) (t : Plain) → b ≡ is_low ty m t → m ≡ n → ty ≡ u → is_low u n t ≡ b
+low_same b ty u m n t h e s = sym (h ∙ ap (λ (z : ℤ). is_low ty z t) e ∙ ap (λ (v : Types). is_low v n t) s)
+
+pub low_between : (b : Bool) (o : Ordering) (a z m n : ℤ) → b ≡ is_gt o → o ≡ int_cmp a m → a ≡ z → m ≡ n → not b ≡ not (is_gt (int_cmp z n))
+low_between b o a z m n h k e f = low_goal b o a z m h k e ∙ ap (λ (y : ℤ). not (is_gt (int_cmp z y))) f

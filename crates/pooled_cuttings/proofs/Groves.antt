@@ -135,3 +135,11 @@ pub component_after : (g h : GroveContent) (r : Result ForestId PoolError) (part
     IfOk r (λ f. HoldsForest h f.0 (with_tree (tree_at g.pool part.0) (forest_in g above)))
 component_after g h (Ok f) part ids all above is kp ka of whole pool known sorting = component_at g h f part ids all above is kp ka of whole pool known sorting
 component_after g h (Err e) part ids all above is kp ka of whole pool known sorting = tt
+
+pub empty_after : (g h : GroveContent) (r : Result ForestId PoolError) → IsGrove g → h.pool ≡ g.pool → IfOk r (λ f. f.0 < length h.forests) →
+    IfOk r (λ f. IsSorting g.pool [] (forest_at h.forests f.0)) → IfOk r (λ f. HoldsForest h f.0 [])
+empty_after g h (Ok f) is pool known sorting = record {
+  known = known;
+  trees = ap (λ (c : Content). trees_at c (forest_at h.forests f.0)) pool ∙ sorted_pool_forest g.pool [] (forest_at h.forests f.0) is.pooled tt sorting;
+}
+empty_after g h (Err e) is pool known sorting = tt

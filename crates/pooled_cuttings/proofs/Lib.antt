@@ -1,8 +1,15 @@
 pub mod Degrees
+pub mod EdgeSteps
+pub mod Finished
 pub mod Fitting
 pub mod Groves
+pub mod Loops
+pub mod MadeKeys
 pub mod Makings
 pub mod Means
 pub mod Members
+pub mod Parts
+pub mod ProductRows
 pub mod Rows
 pub mod SameKeys
+pub mod SameSums

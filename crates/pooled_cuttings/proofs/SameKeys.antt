@@ -36,24 +36,24 @@ same_forest g i j is h k e =
     is.distinct i j (forest_at g.forests j) (slice_get-get_or g.forests i [] h ∙ ap Some lists) (slice_get-get_or g.forests j [] k)
 
 -- tests that are true for the same reason
-both_ways : (a b : Bool) → (a ≡ true → b ≡ true) → (b ≡ true → a ≡ true) → a ≡ b
+pub both_ways : (a b : Bool) → (a ≡ true → b ≡ true) → (b ≡ true → a ≡ true) → a ≡ b
 both_ways true true h k = refl
 both_ways true false h k = sym (h refl)
 both_ways false true h k = k refl
 both_ways false false h k = refl
 
-numbers_equal : (i j : ℕ) → i ≡ j → nat_eq i j ≡ true
+pub numbers_equal : (i j : ℕ) → i ≡ j → nat_eq i j ≡ true
 numbers_equal i j e = grind (arith, nat_tests, e)
 
-equal_numbers : (i j : ℕ) → nat_eq i j ≡ true → i ≡ j
+pub equal_numbers : (i j : ℕ) → nat_eq i j ≡ true → i ≡ j
 equal_numbers i j e = grind (arith, nat_tests, e)
 
-and_true : (a b : Bool) → a ≡ true → b ≡ true → a && b ≡ true
+pub and_true : (a b : Bool) → a ≡ true → b ≡ true → a && b ≡ true
 and_true true true h k = refl
 and_true true false h k = k
 and_true false b h k = h
 
-true_and : (a b : Bool) → a && b ≡ true → (a ≡ true) × (b ≡ true)
+pub true_and : (a b : Bool) → a && b ≡ true → (a ≡ true) × (b ≡ true)
 true_and true true h = (refl, refl)
 true_and true false h = absurd cc
 true_and false b h = absurd cc
@@ -118,3 +118,51 @@ recentred_same c k l is h i =
   where
     key_at : ℕ → ℕ → Recentred
     key_at f q = (tree_at c f, tree_at c q)
+
+-- the tests of keys are exact
+abbrev pub open_test : OpenKey → OpenKey → Bool
+open_test k l = nat_eq k.above.0 l.above.0 && (nat_eq k.part.0 l.part.0 && nat_eq k.quotient.0 l.quotient.0)
+
+abbrev pub extract_test : ExtractKey → ExtractKey → Bool
+extract_test k l = nat_eq k.forest.0 l.forest.0 && nat_eq k.quotient.0 l.quotient.0
+
+abbrev pub right_test : RightKey → RightKey → Bool
+right_test k l = nat_eq k.left.0 l.left.0 && nat_eq k.right.0 l.right.0
+
+abbrev open_key : ℕ → ℕ → ℕ → OpenKey
+open_key a p q = record { above = record { 0 = a }; part = record { 0 = p }; quotient = record { 0 = q } }
+
+abbrev extract_key : ℕ → ℕ → ExtractKey
+extract_key f q = record { forest = record { 0 = f }; quotient = record { 0 = q } }
+
+abbrev right_key : ℕ → ℕ → RightKey
+right_key l r = record { left = record { 0 = l }; right = record { 0 = r } }
+
+pub exact_open : IsExactTest open_test
+exact_open = record {
+  always = λ k. and_true _ _ (numbers_equal k.above.0 k.above.0 refl) (and_true _ _ (numbers_equal k.part.0 k.part.0 refl) (numbers_equal k.quotient.0 k.quotient.0 refl));
+  only = λ k l e.
+      let first = true_and (nat_eq k.above.0 l.above.0) (nat_eq k.part.0 l.part.0 && nat_eq k.quotient.0 l.quotient.0) e in
+      let rest = true_and (nat_eq k.part.0 l.part.0) (nat_eq k.quotient.0 l.quotient.0) first.1 in
+      ap (λ (n : ℕ). open_key n k.part.0 k.quotient.0) (equal_numbers k.above.0 l.above.0 first.0)
+      ∙ ap (λ (n : ℕ). open_key l.above.0 n k.quotient.0) (equal_numbers k.part.0 l.part.0 rest.0)
+      ∙ ap (open_key l.above.0 l.part.0) (equal_numbers k.quotient.0 l.quotient.0 rest.1);
+}
+
+pub exact_extract : IsExactTest extract_test
+exact_extract = record {
+  always = λ k. and_true _ _ (numbers_equal k.forest.0 k.forest.0 refl) (numbers_equal k.quotient.0 k.quotient.0 refl);
+  only = λ k l e.
+      let both = true_and (nat_eq k.forest.0 l.forest.0) (nat_eq k.quotient.0 l.quotient.0) e in
+      ap (λ (n : ℕ). extract_key n k.quotient.0) (equal_numbers k.forest.0 l.forest.0 both.0)
+      ∙ ap (extract_key l.forest.0) (equal_numbers k.quotient.0 l.quotient.0 both.1);
+}
+
+pub exact_right : IsExactTest right_test
+exact_right = record {
+  always = λ k. and_true _ _ (numbers_equal k.left.0 k.left.0 refl) (numbers_equal k.right.0 k.right.0 refl);
+  only = λ k l e.
+      let both = true_and (nat_eq k.left.0 l.left.0) (nat_eq k.right.0 l.right.0) e in
+      ap (λ (n : ℕ). right_key n k.right.0) (equal_numbers k.left.0 l.left.0 both.0)
+      ∙ ap (right_key l.left.0) (equal_numbers k.right.0 l.right.0 both.1);
+}

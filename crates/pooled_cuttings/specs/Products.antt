@@ -1,7 +1,12 @@
 -- The products of lines at one more edge.
 --   is_low ty most t == the standard part of the degree of t is at most `most`
---   kept_terms ty most ts == the terms with a low part, with the values of their coefficients
+--   low_terms ty most ts == the terms with a low part
+--   kept_terms ty most ts == the same with the values of their coefficients
 --   inside_term, outside_term, beside_term == the product of two terms
+--   touched_products e ss above closed touched == all products over the edge of e: in the set, or
+--       outside it with each of the shifts ss
+--   seed n a == of the tree with one node of decoration n: the part a is taken
+--   IsPart ty n a == a is at most n; it and what it leaves are small multiindices
 --   HoldsForest g i ts == the forest with the number i is ts
 --   CanHold ty t == t is small and of the types ty
 --   IsEdgeStep ty e == the step e is over an edge of the types ty, with a small decoration
@@ -9,13 +14,14 @@
 --   IsInsideFit, IsOutsideFit, IsBesideFit == so is what two terms give together; it is known only
 --       where the part is low
 --   AreInsideFit, AreOutsideFit, AreBesideFit == so it is with each pair of some lines
-use Rattle.std.specs.Prelude.{◌≡◌, ◌<◌, ◌≤◌, ◌*◌, ℕ, ℤ, Bool, true, not, List, length, filter, sum}
+use Rattle.std.specs.Prelude.{◌≡◌, ◌<◌, ◌≤◌, ◌*◌, ℕ, ℤ, Bool, true, not, List, [], ◌++◌, length, filter, flat_map, sum}
 use Rattle.std.specs.List.{AllByRecursion}
 use Rattle.std.specs.Ordering.{int_cmp, is_gt}
-use Rattle.exact_sums.specs.Keyed.{saturated_terms}
+use Rattle.exact_sums.specs.Keyed.{saturated_terms, products}
 use Rattle.degree_numbers.specs.declared.types.Types.{Types}
 use Rattle.degree_numbers.specs.declared.multi.Multi.{Multi}
-use Rattle.plain_trees.specs.Plain.{Plain, IsSmall}
+use Rattle.degree_numbers.specs.Multi.{minus_of, IsAtMost, IsMultiIndex}
+use Rattle.plain_trees.specs.Plain.{Plain, bare, IsSmall}
 use Rattle.plain_trees.specs.Degree.{degree_of, HasTypes}
 use Rattle.plain_trees.specs.Coproducts.{Extracted}
 use Rattle.cutting_tables.specs.Keys.{Opened, inside, inside_factor, outside, outside_factor, beside}
@@ -28,8 +34,11 @@ use Rattle.pooled_cuttings.specs.Lines.{opened_in, extracted_in}
 abbrev pub is_low : Types → ℤ → Plain → Bool
 is_low ty most t = not (is_gt (int_cmp (degree_of ty t).a most))
 
+abbrev pub low_terms : Types → ℤ → List (Opened × ℕ) → List (Opened × ℕ)
+low_terms ty most ts = filter (λ e. is_low ty most e.0.part) ts
+
 abbrev pub kept_terms : Types → ℤ → List (Opened × ℕ) → List (Opened × ℕ)
-kept_terms ty most ts = saturated_terms (filter (λ e. is_low ty most e.0.part) ts)
+kept_terms ty most ts = saturated_terms (low_terms ty most ts)
 
 abbrev pub inside_term : EdgeStep → Opened × ℕ → Opened × ℕ → Opened × ℕ
 inside_term e x y =
@@ -41,6 +50,23 @@ outside_term e s x y =
 
 abbrev pub beside_term : EdgeStep → Extracted × ℕ → Extracted × ℕ → Extracted × ℕ
 beside_term e x y = (beside e.kind.0 e.p.entries x.0 y.0, x.1 * (1 * y.1))
+
+abbrev pub touched_products : EdgeStep → List (List ℕ) → List (Opened × ℕ) →
+    List (Extracted × ℕ) → List (Opened × ℕ) → List (Opened × ℕ)
+touched_products e ss above closed touched =
+    products inside_factor (inside e.kind.0 e.p.entries) above touched
+    ++ flat_map
+    (λ s. products (outside_factor s) (outside s e.kind.0 e.p.entries) closed touched) ss
+
+abbrev pub seed : List ℕ → List ℕ → Opened × ℕ
+seed n a = (record { above = []; part = bare a; quotient = bare (minus_of n a) }, 1)
+
+pub record IsPart (ty : Types) (n a : List ℕ) : Type 0 where
+  pub taken : IsMultiIndex ty.dims a
+  pub left : IsMultiIndex ty.dims (minus_of n a)
+  pub most : IsAtMost a n
+  pub taken_small : sum a ≤ 4096
+  pub left_small : sum (minus_of n a) ≤ 4096
 
 pub record HoldsForest (g : GroveContent) (i : ℕ) (ts : List Plain) : Type 0 where
   pub known : i < length g.forests

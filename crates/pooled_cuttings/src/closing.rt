@@ -17,7 +17,6 @@ use degree_numbers::{Degree, Multi, Types};
 use exact_sums::Saturated;
 use plain_trees::is_kernel_type;
 use std::alloc::Global;
-use std::cmp::Ordering;
 use tree_pool::{EdgeTo, Pool, PoolError, TreeId};
 
 /// Whether the tree with this decoration and these edges at its root is planted.
@@ -38,10 +37,13 @@ fn is_finished(pool: &Pool<'_>, part: TreeId) -> bool
         && is_extracted pool.now.types (tree_at pool.now part.0) }
 {
     let (n, edges) = pool.node(part);
-    let zero = Degree { a: 0, b: 0 };
-    !edges.is_empty()
-        && !is_planted(pool.types(), &n, edges)
-        && pool.degree(part).order(&zero) == Ordering::Less
+    if edges.is_empty() {
+        return false;
+    }
+    if is_planted(pool.types(), &n, edges) {
+        return false;
+    }
+    pool.degree(part).order(&Degree { a: 0, b: 0 }).is_lt()
 }
 
 /// What an open key gives when the component of the root is finished.

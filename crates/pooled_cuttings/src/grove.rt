@@ -159,6 +159,15 @@ impl<'a> Grove<'a> {
         self.pool.intern_node(alloc, n, &[])
     }
 
+    /// The number of the forest with no tree.
+    pub(crate) fn no_tree(&mut self, alloc: Global) -> Result<ForestId, PoolError>
+        ensures forest { IfOk result (λ f. HoldsForest self.new f.0 []) }
+        ensures grown { IsGrownGrove self.old self.new }
+    {
+        self.laws();
+        self.forest(alloc, &[])
+    }
+
     /// The number of the forest that has the trees of two forests.
     pub(crate) fn united(
         &mut self,

@@ -3,6 +3,7 @@
 #![tactic(auto)]
 
 mod beside;
+mod branches;
 mod closing;
 mod collecting;
 mod grove;
@@ -13,6 +14,8 @@ mod lines;
 mod made;
 mod outside;
 mod right;
+
+mod seeds;
 mod steps;
 mod tables;
 

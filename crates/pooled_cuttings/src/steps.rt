@@ -1,5 +1,6 @@
 // One more edge at a root, and which components are followed over it.
-ghost use Rattle.std.specs.Prelude.{◌≡◌, ◌<◌, ◌≤◌, length, pos, sum};
+ghost use Rattle.std.specs.Prelude.{◌≡◌, ◌<◌, ◌≤◌, ◌+ℤ◌, FitsSigned, length, pos, sum};
+ghost use Rattle.std.specs.Int.{w64};
 ghost use Rattle.degree_numbers.specs.Types.{AreTypes, size_in_units};
 ghost use Rattle.plain_trees.specs.Plain.{graft};
 ghost use Rattle.plain_trees.specs.Joined.{raised};
@@ -19,6 +20,14 @@ pub(crate) struct EdgeStep {
     pub most: i64,
 }
 
+/// The sum of two standard parts.
+fn sum_of(x: i64, y: i64) -> i64
+    requires { FitsSigned w64 (x +ℤ y) }
+    ensures { result ≡ x +ℤ y }
+{
+    x + y
+}
+
 /// Whether the component with the tree `above` above the edge, and with `rest` at its root, is
 /// followed.
 pub(crate) fn is_low_over(pool: &Pool<'_>, step: &EdgeStep, above: TreeId, rest: TreeId) -> bool
@@ -31,7 +40,9 @@ pub(crate) fn is_low_over(pool: &Pool<'_>, step: &EdgeStep, above: TreeId, rest:
 {
     pool.laws();
     let edge = edge_degree(pool.types(), step.kind, &step.p);
-    edge.a + pool.degree(above).a + pool.degree(rest).a <= step.most
+    let branch = sum_of(edge.a, pool.degree(above).a);
+    let whole = sum_of(branch, pool.degree(rest).a);
+    !whole.cmp(&step.most).is_gt()
 }
 
 /// What a shift adds to the degree of a component: its scaled size, in units.
@@ -52,5 +63,6 @@ pub(crate) fn is_low_raised(pool: &Pool<'_>, step: &EdgeStep, s: &Multi, part: T
         (raised s.now.entries (tree_at pool.now part.0)) }
 {
     pool.laws();
-    shift_size(pool.types(), s) + pool.degree(part).a <= step.most
+    let whole = sum_of(shift_size(pool.types(), s), pool.degree(part).a);
+    !whole.cmp(&step.most).is_gt()
 }

@@ -1,18 +1,24 @@
 // The tables of a tree, as lines of a grove.
-ghost use Rattle.std.specs.Prelude.{◌≡◌, ◌≤ℤ◌, neg_ℤ, pos, ℕ, IfOk};
+ghost use Rattle.std.specs.Prelude.{◌≡◌, ◌<◌, ◌≤◌, ◌≤ℤ◌, ◌+ℤ◌, neg_ℤ, pos, ℕ, length, sum, IfOk};
 ghost use Rattle.degree_numbers.specs.Multi.{IsMultiIndex};
-ghost use Rattle.plain_trees.specs.Plain.{Plain, bare};
+ghost use Rattle.plain_trees.specs.Plain.{Plain, bare, graft};
 ghost use Rattle.tree_pool.specs.Content.{tree_at, tree_over};
 ghost use Rattle.cutting_sizes.specs.Bounds.{IsBounded, most_shift};
 ghost use Rattle.cutting_sizes.specs.Lows.{lowest};
+ghost use Rattle.cutting_tables.specs.PoolLows.{AreLows, AreWithin};
 ghost use Rattle.cutting_tables.specs.Tables.{closed_terms};
 ghost use Rattle.cutting_tables.specs.Live.{AreSameExtracted, tables_within};
 ghost use Rattle.pooled_cuttings.specs.Groves.{IsGrownGrove};
 ghost use Rattle.pooled_cuttings.specs.Lines.{extracted_terms_in, AreExtractLines, AreOpenLines};
 ghost use Rattle.pooled_cuttings.specs.NodeTables.{IsTableBounds, tree_with, IsOneMore, AreTables};
 
+use crate::branches::{idle_lines, touched_over};
+use crate::closing::push_all_closed;
+use crate::collecting::collect_extracted;
 use crate::grove::Grove;
 use crate::keys::{ExtractKey, OpenKey};
+use crate::seeds::{idle_seed, seed_lines};
+use crate::steps::EdgeStep;
 use cutting_tables::Lows;
 use degree_numbers::Multi;
 use exact_sums::Saturated;
@@ -50,7 +56,14 @@ pub fn tables_of_node(
     ensures tables { IfOk result (λ x. AreTables grove.new bounds.now (bare n.now.entries) x) }
     ensures grown { IsGrownGrove grove.old grove.new }
 {
-    Err(PoolError::Memory)
+    let idle = idle_seed(grove, alloc, n)?;
+    grove.laws();
+    let touched = seed_lines(grove, alloc, bounds, n)?;
+    Ok(NodeTables {
+        lows: Lows::of_node(),
+        idle,
+        touched,
+    })
 }
 
 /// The lines of all cuttings of which all components are extracted, from the tables of a tree:
@@ -70,7 +83,40 @@ pub fn closed_lines(
         (closed_terms grove.old.pool.types (tables_within grove.old.pool.types most_shift t))) }
     ensures grown { IsGrownGrove grove.old grove.new }
 {
-    Err(PoolError::Memory)
+    grove.laws();
+    let mut lines = Vec::new(alloc);
+    lines.extend_from_slice(tables.idle.as_slice())?;
+    push_all_closed(grove, alloc, tables.touched.as_slice(), &mut lines)?;
+    collect_extracted(grove, &mut lines);
+    Ok(lines)
+}
+
+/// The lows of a tree with one more edge at its root.
+fn lows_over(grove: &Grove<'_>, edge: &EdgeTo, above: &Lows, others: &Lows) -> Lows
+    requires known { edge.now.kind.0 < length grove.now.pool.types.list }
+    requires small { sum edge.now.p.entries ≤ 4096 }
+    requires above { AreWithin above.now }
+    requires others { AreWithin others.now }
+    ensures { (c t : Plain) → AreLows grove.now.pool.types c above.now →
+        AreLows grove.now.pool.types t others.now → AreLows grove.now.pool.types
+        (graft edge.now.kind.0 edge.now.p.entries c t) result }
+{
+    others.with_edge(grove.pool().types(), edge.kind, &edge.p, above)
+}
+
+/// The step over an edge, in a tree with these lows.
+fn step_over(bounds: &TableBounds, edge: &EdgeTo, lows: &Lows) -> EdgeStep
+    requires within { AreWithin lows.now }
+    requires excess { bounds.now.excess ≤ 1120000000 }
+    ensures kind { result.kind ≡ edge.now.kind }
+    ensures p { result.p ≡ edge.now.p }
+    ensures most { result.most ≡ lows.now.low +ℤ pos bounds.now.excess }
+{
+    EdgeStep {
+        kind: edge.kind,
+        p: edge.p,
+        most: lows.low + bounds.excess as i64,
+    }
 }
 
 /// The tables of the tree with root decoration `n` and the edges `edge` and then `rest`, from those
@@ -101,5 +147,23 @@ pub fn with_edge(
         (tree_with grove.old.pool edge.now n.now rest.now) x) }
     ensures grown { IsGrownGrove grove.old grove.new }
 {
-    Err(PoolError::Memory)
+    grove.laws();
+    let lows = lows_over(grove, edge, &above.lows, &others.lows);
+    let step = step_over(bounds, edge, &lows);
+    let idle = idle_lines(grove, alloc, &step, closed, others.idle.as_slice())?;
+    grove.laws();
+    let touched = touched_over(
+        grove,
+        alloc,
+        &step,
+        bounds.shift,
+        above.touched.as_slice(),
+        closed,
+        others.touched.as_slice(),
+    )?;
+    Ok(NodeTables {
+        lows,
+        idle,
+        touched,
+    })
 }

@@ -1,0 +1,66 @@
+use Rattle.std.proofs.Common.{◌≡◌, ◌∙◌, ◌++◌, ap, refl, List, ℕ}
+use Rattle.pooled_cuttings.specs.Lines.{opened_terms_in, IsOpenLine, IsExtractLine, opened_in, extracted_in}
+use Rattle.pooled_cuttings.proofs.Groves.{grove_refl, grove_trans}
+use Rattle.pooled_cuttings.proofs.Means.{open_line_grown, extract_line_grown, open_lines_grown, extract_lines_grown}
+use Rattle.pooled_cuttings.proofs.Rows.{row_step, row_end, all_at}
+use Rattle.pooled_cuttings.proofs.Loops.{inside_row, inside_rows, inside_rows_parts, inside_row_grown, inside_fits_grown}
+use Rattle.pooled_cuttings.specs.Products.{IsInsideFit, IsOutsideFit, IsBesideFit, AreOutsideFit}
+use Rattle.std.specs.List.{AllByRecursion}
+use Rattle.std.proofs.Common.{sum, ◌≤◌}
+use Rattle.pooled_cuttings.proofs.inside.push_inside_rows.Goals as goal
+
+
+pub push_inside_row-requires-clause-step : goal.push_inside_row-requires-clause-step
+push_inside_row-requires-clause-step c =
+    record { known = rw c.loop-x.invariant.grown.pool.types c.requires.step.known; small = c.requires.step.small }
+
+pub push_inside_row-requires-clause-x : goal.push_inside_row-requires-clause-x
+push_inside_row-requires-clause-x c =
+    let g = c.args.grove.now in
+    let h = c.loop-x.grove in
+    let a = c.loop-x.invariant.grown in
+    let line = all_at (IsOpenLine g) c.args.xs.now c.loop-x.x-index c.x-item.result c.loop-x-test.true c.x-item.is c.requires.xs in
+    open_line_grown g h c.x-item.result a line
+
+pub push_inside_row-requires-clause-ys : goal.push_inside_row-requires-clause-ys
+push_inside_row-requires-clause-ys c =
+    let g = c.args.grove.now in
+    let h = c.loop-x.grove in
+    let a = c.loop-x.invariant.grown in
+    open_lines_grown g h c.args.ys.now a c.requires.ys
+
+pub push_inside_row-requires-clause-lines : goal.push_inside_row-requires-clause-lines
+push_inside_row-requires-clause-lines c =
+    c.loop-x.invariant.lines
+
+pub push_inside_row-requires-clause-fits : goal.push_inside_row-requires-clause-fits
+push_inside_row-requires-clause-fits c =
+    let g = c.args.grove.now in
+    let h = c.loop-x.grove in
+    let a = c.loop-x.invariant.grown in
+    let line = all_at (IsOpenLine g) c.args.xs.now c.loop-x.x-index c.x-item.result c.loop-x-test.true c.x-item.is c.requires.xs in
+    let fit = all_at (λ x. AllByRecursion (λ y. IsInsideFit g.pool.types c.args.step.now (opened_in g x.0) (opened_in g y.0)) c.args.ys.now) c.args.xs.now c.loop-x.x-index c.x-item.result c.loop-x-test.true c.x-item.is c.requires.fits in
+    inside_fits_grown g h c.laws.ensures a c.args.step.now c.x-item.result c.args.ys.now line c.requires.ys fit
+
+pub loop-x-preserved : goal.loop-x-preserved
+loop-x-preserved c =
+    let g = c.args.grove.now in
+    let h = c.loop-x.grove in
+    let line = all_at (IsOpenLine g) c.args.xs.now c.loop-x.x-index c.x-item.result c.loop-x-test.true c.x-item.is c.requires.xs in
+    let put = c.in_ok-push_inside_row.ensures.terms ∙ ap (λ ts. opened_terms_in h c.loop-x.lines.items ++ ts) (inside_row_grown g h c.laws.ensures c.loop-x.invariant.grown c.args.step.now c.x-item.result c.args.ys.now line c.requires.ys) in
+    record {
+      grown = grove_trans g h c.push_inside_row.new.grove c.loop-x.invariant.grown c.in_ok-push_inside_row.ensures.grown;
+      lines = c.in_ok-push_inside_row.ensures.lines;
+      terms =
+          row_step (inside_rows g c.args.step.now c.args.ys.now) (λ x. inside_row g c.args.step.now x c.args.ys.now) (inside_rows_parts g c.args.step.now c.args.ys.now) c.args.xs.now c.loop-x.x-index c.x-item.result
+          (opened_terms_in h c.loop-x.lines.items) (opened_terms_in c.push_inside_row.new.grove c.push_inside_row.new.lines.items) _ c.loop-x-test.true c.x-item.is put c.loop-x.invariant.terms;
+    }
+
+pub returns-in_err-push_inside_row-clause-grown : goal.returns-in_err-push_inside_row-clause-grown
+returns-in_err-push_inside_row-clause-grown c =
+    grove_trans c.args.grove.now c.loop-x.grove c.push_inside_row.new.grove c.loop-x.invariant.grown c.in_err-push_inside_row.ensures.grown
+
+pub returns-clause-terms : goal.returns-clause-terms
+returns-clause-terms c =
+    let g = c.args.grove.now in
+    row_end (inside_rows g c.args.step.now c.args.ys.now) c.args.xs.now c.loop-x.x-index (opened_terms_in c.loop-x.grove c.loop-x.lines.items) _ refl c.loop-x-test.false c.loop-x.invariant.terms
