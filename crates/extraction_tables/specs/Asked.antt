@@ -1,7 +1,6 @@
 -- Trees of which tables are made.
---   AreBoundsOf c b i == the tree with the number i is there and is bounded; and within the bounds b
---       the tables of it and of its subtrees can be made, and nothing is dropped that can be
---       extracted
+--   AreBoundsOf c b i == the tree with the number i is there and is bounded; within the bounds b the
+--       tables of it and of its subtrees can be made, and nothing is dropped that can be extracted
 use Rattle.std.specs.Prelude.{ℕ, ◌<◌, ◌≤ℤ◌, pos, neg_ℤ, length}
 use Rattle.tree_pool.specs.Content.{Content, tree_at}
 use Rattle.cutting_sizes.specs.Bounds.{IsBounded}

@@ -13,7 +13,8 @@ use crate::bounds::bounds_of;
 use degree_numbers::Multi;
 use exact_sums::Saturated;
 use pooled_cuttings::{
-    ExtractKey, Grove, NodeTables, TableBounds, closed_lines, growth_laws, tables_of_node, with_edge,
+    ExtractKey, Grove, NodeTables, TableBounds, closed_lines, growth_laws, tables_of_node,
+    with_edge,
 };
 use std::alloc::Global;
 use tree_pool::{EdgeTo, PoolError, TreeId};

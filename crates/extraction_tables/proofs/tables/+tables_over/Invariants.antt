@@ -11,7 +11,8 @@ abbrev pub invariant-loop-i : goal.invariant-loop-i
 invariant-loop-i l = record {
   most : l.i ≤ length l.edges;
   grown : IsGrownGrove l.fn.grove l.grove;
-  tables : AreTables l.grove l.bounds (tree_over l.fn.grove.pool.trees l.n.entries (drop l.i l.edges)) l.tables;
+  tables : AreTables l.grove l.bounds (tree_over l.fn.grove.pool.trees l.n.entries
+      (drop l.i l.edges)) l.tables;
 }
 
 abbrev pub decreases-loop-i : goal.decreases-loop-i
