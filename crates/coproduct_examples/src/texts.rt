@@ -103,7 +103,7 @@ pub fn coproduct_of_file(
 #[cfg(test)]
 mod tests {
     use super::*;
-    use known_types::{apart_types, kpz_types, phi43_types};
+    use known_types::{kpz_types, phi43_types};
 
     fn has_terms(alloc: Global, types: &Types, text: &[u8], terms: &[u8]) -> bool
         requires { AreTypes types.now }
@@ -121,12 +121,18 @@ mod tests {
         assert!(rt; has_terms(rt.alloc(), &types, b"[X(0,1)*xi]", terms));
     }
 
+    // The dynamic Phi^4 model in two dimensions with a second noise.
+    const TWO_NOISES: &[u8] =
+        b"version = 1\nscaling = [2, 1, 1]\n[[noise]]\nname = \"xi\"\ndegree = \"-2-k\"\n[[noise]]\nname = \"eta\"\ndegree = \"-2-k\"\n[[unknown]]\nname = \"u\"\ndegree = \"2\"\nregularity = \"-1/2\"\nright = \"-u^3+xi+eta\"\n";
+
     #[test]
     fn forests_of_one_and_of_two_noises(rt: HostRuntime) {
-        let types = apart_types(rt.alloc()).expect(&rt, "types");
         let terms =
             b"1 {} | [u[xi]*u[eta]]\n1 {[xi]} | [u[]*u[eta]]\n1 {[eta]} | [u[]*u[xi]]\n1 {[u[xi]*u[eta]]} | []\n1 {[xi][eta]} | [u[]*u[]]\n";
-        assert!(rt; has_terms(rt.alloc(), &types, b"[u[xi]*u[eta]]", terms));
+        let out = coproduct_of_file(rt.alloc(), TWO_NOISES, b"[u[xi]*u[eta]]")
+            .expect(&rt, "read")
+            .expect(&rt, "terms");
+        assert!(rt; out.as_slice() == terms.as_slice());
     }
 
     #[test]
