@@ -21,7 +21,8 @@ pub fn work_of_two_calls(alloc: Global) -> Option<([u64; 2], bool)> {
     Some(([after_first, work.tables], first == second))
 }
 
-/// The count of the work after a call on `[u'(0,1)[xi]*u'(0,1)[xi]]`, and after one on `[xi]`, which is a component of
+/// The count of the work after a call on `[u'(0,1)[xi]*u'(0,1)[xi]]`, and after one on `[xi]`,
+/// which is a component of
 /// that tree.
 pub fn work_of_two_trees(alloc: Global) -> Option<[u64; 2]> {
     let arena = Bump::new(alloc);

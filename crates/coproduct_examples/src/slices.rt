@@ -1,4 +1,5 @@
-// Terms in an arena, read when the tables that gave them are gone. None can be kept past the arena: `.ci/loans` tries to.
+// Terms in an arena, read when the tables that gave them are gone. None can be kept past the arena:
+// `.ci/loans` tries to.
 use crate::asked::{asked, interned};
 use bumpalo::Bump;
 use extraction_coproduct::{Tables, Work};

@@ -61,9 +61,10 @@ module _ (g : GroveContent) where
       MatchOption r (IsIn i (numbers_in fs) → ⊥) (λ ts. IsIn (i, ts.now) fs) →
       MatchOption r (IsIn i (numbers_in fs) → ⊥) (λ ts. IsIn i (numbers_in fs) × IsTerms g i ts.now)
   found_terms fs i a None h = h
-  found_terms fs i a (Some v) h =
-      (in_map (λ (f : ℕ × List ExtractTerm). f.0) (i, v.now) fs h,
-      all_at_member (λ (f : ℕ × List ExtractTerm). IsTerms g f.0 f.1) fs (i, v.now) a h)
+  found_terms fs i a (Some v) h = (
+    in_map (λ (f : ℕ × List ExtractTerm). f.0) (i, v.now) fs h,
+    all_at_member (λ (f : ℕ × List ExtractTerm). IsTerms g f.0 f.1) fs (i, v.now) a h,
+  )
 
   pub finished_push : (fs : List (ℕ × List ExtractTerm)) (i : ℕ) (ts : List ExtractTerm) → AreFinished g fs → IsTerms g i ts →
       AreFinished g (fs ++ (i, ts) ∷ [])

@@ -78,7 +78,8 @@ pub fn coproduct_lines(
 
 /// The term of a line, where its coefficient is in range.
 fn term_of(line: &(ExtractKey, Saturated)) -> Option<ExtractTerm>
-    ensures { MatchOption result (overflow ≤ line.now.1) (λ t. (t ≡ term_of line.now) × (line.now.1 < overflow)) }
+    ensures { MatchOption result (overflow ≤ line.now.1)
+        (λ t. (t ≡ term_of line.now) × (line.now.1 < overflow)) }
 {
     Some(ExtractTerm {
         coefficient: line.1.value()?,

@@ -23,12 +23,15 @@ use std::alloc::{AllocError, Global};
 use std::marker::Model;
 use tree_pool::{ForestId, ForestPool, Pool, PoolError, TreeId};
 
-/// The extraction coproduct of the trees of a pool, with a memory of what is finished. Contracts see the trees, the forests of them, and the numbers of the trees whose
+/// The extraction coproduct of the trees of a pool, with a memory of what is finished. Contracts
+/// see the trees, the forests of them, and the numbers of the trees whose
 /// terms are finished, in the order in which they were finished.
 ///
-/// **Invariant.** What is finished are the terms of the extraction coproduct. The forests are of trees of the pool, each once.
+/// **Invariant.** What is finished are the terms of the extraction coproduct. The forests are of
+/// trees of the pool, each once.
 ///
-/// **Growth.** The pool is handed out for reading alone. Calls add trees and forests to it, and never change a number.
+/// **Growth.** The pool is handed out for reading alone. Calls add trees and forests to it, and
+/// never change a number.
 #[derive(Drop)]
 pub struct Tables<'a> {
     arena: &'a Bump,
@@ -50,7 +53,8 @@ impl<'a> Model for Tables<'a> {
 }
 
 impl<'a> Tables<'a> {
-    /// Takes a pool over, with its numbers. The types are those with which the pool was made. Fails only for want of memory; the pool is then given up.
+    /// Takes a pool over, with its numbers. The types are those with which the pool was made. Fails
+    /// only for want of memory; the pool is then given up.
     pub fn new(
         alloc: Global,
         arena: &'a Bump,
@@ -95,7 +99,8 @@ impl<'a> Tables<'a> {
         self.grove.laws();
     }
 
-    /// The number of the forest of these trees, in any order, each as often as it is given. Fails only for want of memory.
+    /// The number of the forest of these trees, in any order, each as often as it is given. Fails
+    /// only for want of memory.
     pub fn forest(&mut self, alloc: Global, ids: &[TreeId]) -> Result<ForestId, CoproductError>
         requires { AreKnown self.old.pool (numbers ids.now) }
         ensures known { IfOk result (λ f. f.0 < length self.new.forests) }
@@ -161,8 +166,10 @@ impl<'a> Tables<'a> {
         Ok(kept)
     }
 
-    /// The terms of the extraction coproduct of a tree (after Bruned, Hairer and Zambotti), each once, ordered by forest, then quotient, in tree order.
-    /// Refused exactly where a coefficient passes 2^127 - 1, or for want of memory; what was finished stays so. The terms stay readable as long as the arena, also while the tables grow.
+    /// The terms of the extraction coproduct of a tree (after Bruned, Hairer and Zambotti), each
+    /// once, ordered by forest, then quotient, in tree order.
+    /// Refused exactly where a coefficient passes 2^127 - 1, or for want of memory; what was
+    /// finished stays so. The terms stay readable as long as the arena, also while the tables grow.
     pub fn coproduct(
         &mut self,
         alloc: Global,

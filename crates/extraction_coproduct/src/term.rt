@@ -4,7 +4,8 @@ ghost use Rattle.extraction_coproduct.specs.Finished.{raised};
 
 use tree_pool::{ForestId, TreeId};
 
-/// A term of the extraction coproduct of a tree: the forest of the components that are extracted, the quotient that is left, and the coefficient of the two.
+/// A term of the extraction coproduct of a tree: the forest of the components that are extracted,
+/// the quotient that is left, and the coefficient of the two.
 #[derive(Clone, Copy, Debug, PartialEq, Eq)]
 pub struct ExtractTerm {
     pub coefficient: i128,
@@ -15,7 +16,8 @@ pub struct ExtractTerm {
 /// A count of the work.
 #[derive(Clone, Copy, Debug, PartialEq, Eq)]
 pub struct Work {
-    /// The number of trees whose extraction coproducts have been finished. It stays at its last value.
+    /// The number of trees whose extraction coproducts have been finished. It stays at its last
+    /// value.
     pub tables: u64,
 }
 

@@ -119,7 +119,7 @@ module _ (g : GroveContent) (types : AreTypes g.pool.types) (e : EdgeStep) (c t 
       all_more (λ x. IsClosedOf ty c (extracted_in g x.0)) _ xs
       (λ x p. all_more (λ y. IsIdleOf ty t (extracted_in g y.0)) _ ys
       (λ y q. let z = beside_of ty e.kind.0 e.p.entries c t (extracted_in g x.0) (extracted_in g y.0) p q in
-        subst (CanHold ty) z.2 (idle_fit ty types whole typed bounded z.0 z.1)) of_ys) of_xs
+      subst (CanHold ty) z.2 (idle_fit ty types whole typed bounded z.0 z.1)) of_ys) of_xs
 
 pub small_shifts : (d m : ℕ) (p : List ℕ) (ss : List Multi) → length p ≡ 5 → m ≤ most_shift → map (λ s. s.entries) ss ≡ shifts (each_direction d m) p →
     AllByRecursion (λ s. sum s.entries ≤ 8192) ss

@@ -157,7 +157,7 @@ module _ (ty : Types) where
     (idle_term (with_outside (zeros p) k p e f)).0,
     (with_outside (zeros p) k p e f, step_idle good w k p c t e f i j, refl),
     ap (λ (m : List ℕ). canon (graft k m e.quotient f.quotient)) (plus-zeros p)
-    ∙ sym (canon-graft k p e.quotient f.quotient)
-    ∙ ap (λ (z : Extracted). canon (graft k p z.1 (canon f.quotient))) q
-    ∙ ap (λ (z : Extracted). canon (graft k p x.1 z.1)) r,
+        ∙ sym (canon-graft k p e.quotient f.quotient)
+        ∙ ap (λ (z : Extracted). canon (graft k p z.1 (canon f.quotient))) q
+        ∙ ap (λ (z : Extracted). canon (graft k p x.1 z.1)) r,
   )

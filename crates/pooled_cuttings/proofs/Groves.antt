@@ -31,7 +31,7 @@ grove_trans f g h a b = record {
   forests = (
     a.forests.0 ++ b.forests.0,
     b.forests.1 ∙ ap (λ (fs : List (List ℕ)). fs ++ b.forests.0) a.forests.1
-    ∙ append_assoc f.forests a.forests.0 b.forests.0,
+        ∙ append_assoc f.forests a.forests.0 b.forests.0,
   );
 }
 

@@ -122,8 +122,8 @@ module _ (g h : GroveContent) (is : IsGrove g) (a : IsGrownGrove g h) (e : EdgeS
     pub outside_fit_grown : (x : ExtractKey × ℕ) (y : OpenKey × ℕ) → IsExtractLine g x → IsOpenLine g y → IsOutsideFit g.pool.types e s (extracted_in g x.0) (opened_in g y.0) →
         IsOutsideFit h.pool.types e s (extracted_in h x.0) (opened_in h y.0)
     outside_fit_grown x y i j fit = subst (λ (ty : Types). IsOutsideFit ty e s (extracted_in h x.0) (opened_in h y.0)) (sym a.pool.types)
-      (subst (λ (z : Extracted). IsOutsideFit g.pool.types e s z (opened_in h y.0)) (sym (extracted_grown g h x.0 is a i.0))
-      (subst (λ (z : Opened). IsOutsideFit g.pool.types e s (extracted_in g x.0) z) (sym (opened_grown g h y.0 is a j.0)) fit))
+        (subst (λ (z : Extracted). IsOutsideFit g.pool.types e s z (opened_in h y.0)) (sym (extracted_grown g h x.0 is a i.0))
+        (subst (λ (z : Opened). IsOutsideFit g.pool.types e s (extracted_in g x.0) z) (sym (opened_grown g h y.0 is a j.0)) fit))
 
     pub outside_row_grown : (x : ExtractKey × ℕ) (ys : List (OpenKey × ℕ)) → IsExtractLine g x → AreOpenLines g ys → outside_row h e s x ys ≡ outside_row g e s x ys
     outside_row_grown x ys i j =

@@ -105,8 +105,8 @@ pub open_key_held : (g : GroveContent) (above : ForestId) (part quotient : TreeI
 open_key_held g above part quotient fs p q a b c = (
   record { above = a.known; part = slice_get_within g.pool.trees part.0 p b; quotient = slice_get_within g.pool.trees quotient.0 q c },
   ap (λ (x : List Plain). open_of x (tree_at g.pool part.0) (tree_at g.pool quotient.0)) a.trees
-  ∙ ap (λ (x : Plain). open_of fs x (tree_at g.pool quotient.0)) (at_holds g.pool part.0 p b)
-  ∙ ap (open_of fs p) (at_holds g.pool quotient.0 q c),
+      ∙ ap (λ (x : Plain). open_of fs x (tree_at g.pool quotient.0)) (at_holds g.pool part.0 p b)
+      ∙ ap (open_of fs p) (at_holds g.pool quotient.0 q c),
 )
 
 pub extract_key_held : (g : GroveContent) (forest : ForestId) (quotient : TreeId) (fs : List Plain) (q : Plain) → HoldsForest g forest.0 fs → Holds g.pool quotient.0 q →
@@ -254,7 +254,7 @@ closed_held g h x forest k a there =
     let q = k.quotient in (
       record { forest = there.known; quotient = omega (arith, n, q) },
       ap (λ (fs : List Plain). pair_of fs (tree_at h.pool x.quotient.0)) there.trees
-      ∙ ap (pair_of (with_tree (tree_at g.pool x.part.0) (forest_in g x.above.0))) (tree_grown g h x.quotient.0 a q),
+          ∙ ap (pair_of (with_tree (tree_at g.pool x.part.0) (forest_in g x.above.0))) (tree_grown g h x.quotient.0 a q),
     )
 
 pub closed_one : (ty : Types) (x : Opened) (n : ℕ) → closes ty x ≡ true → rekeyed closing (filter (λ e. closes ty e.0) ((x, n) ∷ [])) ≡ (closing x, n) ∷ []

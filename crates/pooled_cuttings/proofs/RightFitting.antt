@@ -178,7 +178,7 @@ module _ (c : Content) (e : EdgeTo) (rest : Plain) (above others : List (RightKe
       (subst (AllByRecursion (λ s. AreRightFit c e s others)) (sym is.shifts)
       (all_in (λ s. AreRightFit c e s others) (filter test all)
       (λ s i. let both = in_filter test s all i in
-        one_right s is.most is.within (in_all (λ s. IsBelow s (limits (each_direction c.types.dims is.most) e.p.entries)) all s (below_is (limits (each_direction c.types.dims is.most) e.p.entries)) both.0) both.1)))
+      one_right s is.most is.within (in_all (λ s. IsBelow s (limits (each_direction c.types.dims is.most) e.p.entries)) all s (below_is (limits (each_direction c.types.dims is.most) e.p.entries)) both.0) both.1)))
 
   pub parts_high : (branch_of c e).a <ℤ pos (unsigned_abs c.types.units.den * suc most_shift)
   parts_high =
@@ -197,7 +197,7 @@ module _ (c : Content) (e : EdgeTo) (rest : Plain) (above others : List (RightKe
       AreSameRecentred new (recentred_within c.types most_shift whole)
   right_table new ss is h =
       let of_shifts = subst (λ (zs : List (List ℕ)). AreSameRecentred new
-        (left_terms e (recentred_terms_in c above) (recentred_terms_in c others) ++ right_terms e child zs (recentred_terms_in c others))) is.shifts h in
+      (left_terms e (recentred_terms_in c above) (recentred_terms_in c others) ++ right_terms e child zs (recentred_terms_in c others))) is.shifts h in
       λ key. of_shifts key
       ∙ right_step c.types most_shift e.kind.0 e.p.entries child rest p.types is.most is.within is.ample (recentred_terms_in c above) (recentred_terms_in c others)
       p.of_child.sums p.of_rest.sums key

@@ -63,20 +63,20 @@ pub opened_same : (g : GroveContent) (k l : OpenKey) → IsGrove g → IsOpenKey
 opened_same g k l is h i =
     both_ways (same_by opened_order (opened_in g k) (opened_in g l)) _
     (λ e.
-      let same = exact_opened.only (opened_in g k) (opened_in g l) e in
-      let above = same_forest g k.above.0 l.above.0 is h.above i.above (ap (λ (x : Opened). x.above) same) in
-      let part = same_tree g.pool k.part.0 l.part.0 is.pooled h.part i.part (ap (λ (x : Opened). x.part) same) in
-      let quotient = same_tree g.pool k.quotient.0 l.quotient.0 is.pooled h.quotient i.quotient (ap (λ (x : Opened). x.quotient) same) in
-      and_true _ _ (numbers_equal k.above.0 l.above.0 above) (and_true _ _ (numbers_equal k.part.0 l.part.0 part) (numbers_equal k.quotient.0 l.quotient.0 quotient)))
+    let same = exact_opened.only (opened_in g k) (opened_in g l) e in
+    let above = same_forest g k.above.0 l.above.0 is h.above i.above (ap (λ (x : Opened). x.above) same) in
+    let part = same_tree g.pool k.part.0 l.part.0 is.pooled h.part i.part (ap (λ (x : Opened). x.part) same) in
+    let quotient = same_tree g.pool k.quotient.0 l.quotient.0 is.pooled h.quotient i.quotient (ap (λ (x : Opened). x.quotient) same) in
+    and_true _ _ (numbers_equal k.above.0 l.above.0 above) (and_true _ _ (numbers_equal k.part.0 l.part.0 part) (numbers_equal k.quotient.0 l.quotient.0 quotient)))
     (λ e.
-      let first = true_and (nat_eq k.above.0 l.above.0) (nat_eq k.part.0 l.part.0 && nat_eq k.quotient.0 l.quotient.0) e in
-      let rest = true_and (nat_eq k.part.0 l.part.0) (nat_eq k.quotient.0 l.quotient.0) first.1 in
-      let a = equal_numbers k.above.0 l.above.0 first.0 in
-      let p = equal_numbers k.part.0 l.part.0 rest.0 in
-      let q = equal_numbers k.quotient.0 l.quotient.0 rest.1 in
-      let same : opened_in g k ≡ opened_in g l =
-      ap (λ (n : ℕ). key_at n k.part.0 k.quotient.0) a ∙ ap (λ (n : ℕ). key_at l.above.0 n k.quotient.0) p ∙ ap (key_at l.above.0 l.part.0) q in
-      subst (λ (x : Opened). same_by opened_order (opened_in g k) x ≡ true) same (exact_opened.always (opened_in g k)))
+    let first = true_and (nat_eq k.above.0 l.above.0) (nat_eq k.part.0 l.part.0 && nat_eq k.quotient.0 l.quotient.0) e in
+    let rest = true_and (nat_eq k.part.0 l.part.0) (nat_eq k.quotient.0 l.quotient.0) first.1 in
+    let a = equal_numbers k.above.0 l.above.0 first.0 in
+    let p = equal_numbers k.part.0 l.part.0 rest.0 in
+    let q = equal_numbers k.quotient.0 l.quotient.0 rest.1 in
+    let same : opened_in g k ≡ opened_in g l =
+    ap (λ (n : ℕ). key_at n k.part.0 k.quotient.0) a ∙ ap (λ (n : ℕ). key_at l.above.0 n k.quotient.0) p ∙ ap (key_at l.above.0 l.part.0) q in
+    subst (λ (x : Opened). same_by opened_order (opened_in g k) x ≡ true) same (exact_opened.always (opened_in g k)))
   where
     key_at : ℕ → ℕ → ℕ → Opened
     key_at a p q = record { above = forest_in g a; part = tree_at g.pool p; quotient = tree_at g.pool q }
@@ -86,16 +86,16 @@ pub extracted_same : (g : GroveContent) (k l : ExtractKey) → IsGrove g → IsE
 extracted_same g k l is h i =
     both_ways (same_by extracted_order (extracted_in g k) (extracted_in g l)) _
     (λ e.
-      let same = exact_extracted.only (extracted_in g k) (extracted_in g l) e in
-      let forest = same_forest g k.forest.0 l.forest.0 is h.forest i.forest (ap (λ (x : Extracted). x.0) same) in
-      let quotient = same_tree g.pool k.quotient.0 l.quotient.0 is.pooled h.quotient i.quotient (ap (λ (x : Extracted). x.1) same) in
-      and_true _ _ (numbers_equal k.forest.0 l.forest.0 forest) (numbers_equal k.quotient.0 l.quotient.0 quotient))
+    let same = exact_extracted.only (extracted_in g k) (extracted_in g l) e in
+    let forest = same_forest g k.forest.0 l.forest.0 is h.forest i.forest (ap (λ (x : Extracted). x.0) same) in
+    let quotient = same_tree g.pool k.quotient.0 l.quotient.0 is.pooled h.quotient i.quotient (ap (λ (x : Extracted). x.1) same) in
+    and_true _ _ (numbers_equal k.forest.0 l.forest.0 forest) (numbers_equal k.quotient.0 l.quotient.0 quotient))
     (λ e.
-      let first = true_and (nat_eq k.forest.0 l.forest.0) (nat_eq k.quotient.0 l.quotient.0) e in
-      let f = equal_numbers k.forest.0 l.forest.0 first.0 in
-      let q = equal_numbers k.quotient.0 l.quotient.0 first.1 in
-      let same : extracted_in g k ≡ extracted_in g l = ap (λ (n : ℕ). key_at n k.quotient.0) f ∙ ap (key_at l.forest.0) q in
-      subst (λ (x : Extracted). same_by extracted_order (extracted_in g k) x ≡ true) same (exact_extracted.always (extracted_in g k)))
+    let first = true_and (nat_eq k.forest.0 l.forest.0) (nat_eq k.quotient.0 l.quotient.0) e in
+    let f = equal_numbers k.forest.0 l.forest.0 first.0 in
+    let q = equal_numbers k.quotient.0 l.quotient.0 first.1 in
+    let same : extracted_in g k ≡ extracted_in g l = ap (λ (n : ℕ). key_at n k.quotient.0) f ∙ ap (key_at l.forest.0) q in
+    subst (λ (x : Extracted). same_by extracted_order (extracted_in g k) x ≡ true) same (exact_extracted.always (extracted_in g k)))
   where
     key_at : ℕ → ℕ → Extracted
     key_at f q = (forest_in g f, tree_at g.pool q)
@@ -105,16 +105,16 @@ pub recentred_same : (c : Content) (k l : RightKey) → IsPooled c → IsRightKe
 recentred_same c k l is h i =
     both_ways (same_by recentred_order (recentred_in c k) (recentred_in c l)) _
     (λ e.
-      let same = exact_recentred.only (recentred_in c k) (recentred_in c l) e in
-      let left = same_tree c k.left.0 l.left.0 is h.left i.left (ap (λ (x : Recentred). x.0) same) in
-      let right = same_tree c k.right.0 l.right.0 is h.right i.right (ap (λ (x : Recentred). x.1) same) in
-      and_true _ _ (numbers_equal k.left.0 l.left.0 left) (numbers_equal k.right.0 l.right.0 right))
+    let same = exact_recentred.only (recentred_in c k) (recentred_in c l) e in
+    let left = same_tree c k.left.0 l.left.0 is h.left i.left (ap (λ (x : Recentred). x.0) same) in
+    let right = same_tree c k.right.0 l.right.0 is h.right i.right (ap (λ (x : Recentred). x.1) same) in
+    and_true _ _ (numbers_equal k.left.0 l.left.0 left) (numbers_equal k.right.0 l.right.0 right))
     (λ e.
-      let first = true_and (nat_eq k.left.0 l.left.0) (nat_eq k.right.0 l.right.0) e in
-      let f = equal_numbers k.left.0 l.left.0 first.0 in
-      let q = equal_numbers k.right.0 l.right.0 first.1 in
-      let same : recentred_in c k ≡ recentred_in c l = ap (λ (n : ℕ). key_at n k.right.0) f ∙ ap (key_at l.left.0) q in
-      subst (λ (x : Recentred). same_by recentred_order (recentred_in c k) x ≡ true) same (exact_recentred.always (recentred_in c k)))
+    let first = true_and (nat_eq k.left.0 l.left.0) (nat_eq k.right.0 l.right.0) e in
+    let f = equal_numbers k.left.0 l.left.0 first.0 in
+    let q = equal_numbers k.right.0 l.right.0 first.1 in
+    let same : recentred_in c k ≡ recentred_in c l = ap (λ (n : ℕ). key_at n k.right.0) f ∙ ap (key_at l.left.0) q in
+    subst (λ (x : Recentred). same_by recentred_order (recentred_in c k) x ≡ true) same (exact_recentred.always (recentred_in c k)))
   where
     key_at : ℕ → ℕ → Recentred
     key_at f q = (tree_at c f, tree_at c q)

@@ -38,15 +38,16 @@ pub record IsOneMore (c : Content) (e : EdgeTo) (n : Multi) (rest : List EdgeTo)
   pub types : HasTypes c.types (tree_with c e n rest)
   pub bounded : IsBounded (tree_with c e n rest)
 
-pub record AreTables (g : GroveContent) (b : TableBounds) (t : Plain) (x : NodeTables) : Type 0 where
-  pub lows : AreLows g.pool.types t x.lows
-  pub idle_lines : AreExtractLines g x.idle.items
-  pub idle :
-      AreSameExtracted (extracted_terms_in g x.idle.items)
-      (tables_within g.pool.types most_shift t).idle
-  pub touched_lines : AreOpenLines g x.touched.items
-  pub touched :
-      IsLiveTable g.pool.types most_shift b.excess t (opened_terms_in g x.touched.items)
+pub record AreTables (g : GroveContent) (b : TableBounds) (t : Plain) (x : NodeTables) : Type 0
+  where
+    pub lows : AreLows g.pool.types t x.lows
+    pub idle_lines : AreExtractLines g x.idle.items
+    pub idle :
+        AreSameExtracted (extracted_terms_in g x.idle.items)
+        (tables_within g.pool.types most_shift t).idle
+    pub touched_lines : AreOpenLines g x.touched.items
+    pub touched :
+        IsLiveTable g.pool.types most_shift b.excess t (opened_terms_in g x.touched.items)
 
 pub record IsOneMoreFit (c : Content) (e : EdgeTo) (n : Multi) (rest : List EdgeTo) : Type 0 where
   pub known : AreBelow (length c.trees) (e ∷ rest)

@@ -1,15 +1,18 @@
 -- The products of lines of recentring at one more edge.
 --   IsRightFit ty x == both trees of x are small and of the types ty
---   IsRightEdge c e == the edge e is of the types of the pool, has a small decoration, and leads to a tree that is there
+--   IsRightEdge c e == the edge e is of the types of the pool, has a small decoration, and leads to
+--       a tree that is there
 --   left_product e x y == of two pairs: the edge e is one of the left tree
---   right_product e c s y == of a pair: the edge e, raised by s, leaves the right tree, with the whole tree c above it
+--   right_product e c s y == of a pair: the edge e, raised by s, leaves the right tree, with the
+--       whole tree c above it
 --   right_seed n a == of the tree with one node of decoration n: the part a stays in the left tree
 --   left_terms e xs ys == all products of the first kind
 --   right_terms e c ss ys == all products of the second kind with the shifts ss
 --   AreLeftFit c e xs ys, AreRightFit c e s ys == what the lines give together is small
 --   branch_of c e == the degree of the edge e and of the tree above it together
 --   lowered ty d s == the degree d less the scaled size of the shift s
---   IsRightShifts c e ss == for some ample bound, ss are the shifts within it that leave the branch of e a degree above 0
+--   IsRightShifts c e ss == for some ample bound, ss are the shifts within it that leave the branch
+--       of e a degree above 0
 use Rattle.std.specs.Prelude.{◌≡◌, ◌≤◌, ◌<◌, ◌*◌, ◌-ℤ◌, ◌<ℤ◌, ℕ, suc, pos, unsigned_abs, List, length, flat_map, sum}
 use Rattle.std.specs.List.{AllByRecursion}
 use Rattle.exact_sums.specs.Keyed.{products, products_with}

@@ -8,8 +8,8 @@ ghost use Rattle.pooled_cuttings.specs.Lines.{extracted_in, extracted_terms_in, 
 ghost use Rattle.pooled_cuttings.specs.Products.{beside_term, IsBesideFit, AreBesideFit};
 
 use crate::grove::Grove;
-use crate::lines::push_line;
 use crate::keys::ExtractKey;
+use crate::lines::push_line;
 use crate::steps::EdgeStep;
 use exact_sums::Saturated;
 use std::alloc::Global;

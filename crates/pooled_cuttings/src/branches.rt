@@ -143,5 +143,13 @@ pub(crate) fn touched_over(
     ensures grown { IsGrownGrove grove.old grove.new }
 {
     let shifts = shifts_below(alloc, grove.pool().types(), most)?;
-    touched_lines(grove, alloc, step, shifts.as_slice(), above, closed, touched)
+    touched_lines(
+        grove,
+        alloc,
+        step,
+        shifts.as_slice(),
+        above,
+        closed,
+        touched,
+    )
 }

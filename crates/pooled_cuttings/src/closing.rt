@@ -11,8 +11,8 @@ ghost use Rattle.pooled_cuttings.specs.Groves.{IsGrownGrove};
 ghost use Rattle.pooled_cuttings.specs.Lines.{opened_in, opened_terms_in, extracted_in, extracted_terms_in, IsOpenKey, IsExtractKey, IsOpenLine, AreOpenLines, AreExtractLines};
 
 use crate::grove::Grove;
-use crate::lines::push_line;
 use crate::keys::{ExtractKey, OpenKey};
+use crate::lines::push_line;
 use degree_numbers::{Degree, Multi, Types};
 use exact_sums::Saturated;
 use plain_trees::is_kernel_type;
@@ -47,11 +47,7 @@ fn is_finished(pool: &Pool<'_>, part: TreeId) -> bool
 }
 
 /// What an open key gives when the component of the root is finished.
-fn closed_key(
-    grove: &mut Grove<'_>,
-    alloc: Global,
-    x: &OpenKey,
-) -> Result<ExtractKey, PoolError>
+fn closed_key(grove: &mut Grove<'_>, alloc: Global, x: &OpenKey) -> Result<ExtractKey, PoolError>
     requires { IsOpenKey grove.old x.now }
     ensures known { IfOk result (λ k. IsExtractKey grove.new k) }
     ensures means { IfOk result (λ k.

@@ -11,8 +11,8 @@ ghost use Rattle.pooled_cuttings.specs.Lines.{opened_in, opened_terms_in, IsOpen
 ghost use Rattle.pooled_cuttings.specs.Products.{kept_terms, inside_term, IsOpenFit, IsEdgeStep, IsInsideFit, AreInsideFit};
 
 use crate::grove::Grove;
-use crate::lines::push_line;
 use crate::keys::OpenKey;
+use crate::lines::push_line;
 use crate::steps::{EdgeStep, is_low_over};
 use cutting_tables::choose_of;
 use exact_sums::Saturated;

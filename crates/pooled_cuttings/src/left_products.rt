@@ -76,9 +76,12 @@ fn push_left(
     ensures lines { OnOk result (AreRightLines pool.new lines.new.items) }
     ensures terms { OnOk result (recentred_terms_in pool.new lines.new.items
         ≡ recentred_terms_in pool.old lines.old.items
-        ++ saturated_terms ((left_product edge.now (recentred_in pool.old x.now.0)
-        (recentred_in pool.old y.now.0), x.now.1 * (left_factor (recentred_in pool.old x.now.0)
-        (recentred_in pool.old y.now.0) * y.now.1)) ∷ [])) }
+        ++ saturated_terms ((
+          left_product edge.now (recentred_in pool.old x.now.0)
+              (recentred_in pool.old y.now.0),
+          x.now.1 * (left_factor (recentred_in pool.old x.now.0)
+              (recentred_in pool.old y.now.0) * y.now.1),
+        ) ∷ [])) }
     ensures grown { IsGrown pool.old pool.new }
 {
     let coefficient = left_coefficient(pool, x, y);

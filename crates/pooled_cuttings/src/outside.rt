@@ -11,8 +11,8 @@ ghost use Rattle.pooled_cuttings.specs.Lines.{opened_in, extracted_in, opened_te
 ghost use Rattle.pooled_cuttings.specs.Products.{kept_terms, outside_term, IsOpenFit, IsEdgeStep, IsOutsideFit, AreOutsideFit};
 
 use crate::grove::Grove;
-use crate::lines::push_line;
 use crate::keys::{ExtractKey, OpenKey};
+use crate::lines::push_line;
 use crate::steps::{EdgeStep, is_low_raised};
 use cutting_tables::choose_of;
 use degree_numbers::Multi;

@@ -76,9 +76,12 @@ fn push_right(
     ensures lines { OnOk result (AreRightLines pool.new lines.new.items) }
     ensures terms { OnOk result (recentred_terms_in pool.new lines.new.items
         ≡ recentred_terms_in pool.old lines.old.items
-        ++ saturated_terms ((right_product edge.now (tree_at pool.old edge.now.child.0)
-        s.now.entries (recentred_in pool.old y.now.0), right_factor s.now.entries
-        (tree_at pool.old edge.now.child.0) (recentred_in pool.old y.now.0) * y.now.1) ∷ [])) }
+        ++ saturated_terms ((
+          right_product edge.now (tree_at pool.old edge.now.child.0)
+              s.now.entries (recentred_in pool.old y.now.0),
+          right_factor s.now.entries
+              (tree_at pool.old edge.now.child.0) (recentred_in pool.old y.now.0) * y.now.1,
+        ) ∷ [])) }
     ensures grown { IsGrown pool.old pool.new }
 {
     let coefficient = right_coefficient(pool, s, y);

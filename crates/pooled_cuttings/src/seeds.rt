@@ -38,7 +38,10 @@ pub(crate) fn idle_seed(
     grove.laws();
     let quotient = grove.node(alloc, *n)?;
     let mut lines = Vec::new(alloc);
-    push_line(&mut lines, (ExtractKey { forest, quotient }, Saturated::of(1)))?;
+    push_line(
+        &mut lines,
+        (ExtractKey { forest, quotient }, Saturated::of(1)),
+    )?;
     Ok(lines)
 }
 

@@ -6,7 +6,8 @@
 --   AreKnownTerms c es == the numbers of es are those of trees that are there
 --   AreInRange xs == no coefficient passes 2^127-1
 --   term_of l == the term of the line l
---   key_order c k l == by left tree, then right tree, in tree order; a number of nothing comes first
+--   key_order c k l == by left tree, then right tree, in tree order; a number of nothing comes
+--       first
 use Rattle.std.specs.Prelude.{ℕ, ℤ, pos, ◌<◌, List, map}
 use Rattle.std.specs.List.{AllByRecursion}
 use Rattle.std.specs.Ordering.{ordering_then}

@@ -25,7 +25,8 @@ use tree_pool::{Pool, PoolError, TreeId};
 fn order(pool: &Pool<'_>, k: &RightKey, l: &RightKey) -> Ordering
     ensures { result ≡ key_order pool.now k.now l.now }
 {
-    pool.order(k.left, l.left).then(pool.order(k.right, l.right))
+    pool.order(k.left, l.left)
+        .then(pool.order(k.right, l.right))
 }
 
 /// Sorts lines by what their keys mean.

@@ -10,7 +10,8 @@ use std::alloc::{AllocError, Global};
 use std::marker::Model;
 use tree_pool::TreeId;
 
-/// The terms of trees, by the trees' numbers, in the order in which they came in. The terms stand in an arena.
+/// The terms of trees, by the trees' numbers, in the order in which they came in. The terms stand
+/// in an arena.
 #[derive(Drop)]
 pub struct Memo<'a> {
     entries: IndexMap<TreeId, &'a [RightTerm]>,
@@ -39,7 +40,8 @@ impl<'a> Memo<'a> {
 
     /// The terms of a tree, where they are there. They stay readable as long as the arena.
     pub fn get(&self, id: TreeId) -> Option<&'a [RightTerm]>
-        ensures { MatchOption result (IsIn id.0 (numbers_in self.now) → ⊥) (λ ts. IsIn (id.0, ts.now) self.now) }
+        ensures { MatchOption result (IsIn id.0 (numbers_in self.now) → ⊥)
+            (λ ts. IsIn (id.0, ts.now) self.now) }
     {
         self.entries.get(&id).copied()
     }

@@ -9,7 +9,8 @@
 --   IsSumOf cmp us ts == ts is the sum of the terms us: each key once, in ascending order, with the
 --       sum of its coefficients, where that is not 0; and it is no larger
 --   is_below z == z is below 0
---   product_of zs, size_of_product zs == the product of whole numbers, that of their absolute values
+--   product_of zs, size_of_product zs == the product of whole numbers, that of their absolute
+--       values
 use Rattle.std.specs.Prelude.{◌≡◌, ◌≢◌, ℕ, ◌≤◌, ◌*◌, ◌==◌, ℤ, pos, negsuc, ◌+ℤ◌, ◌*ℤ◌, unsigned_abs, Bool, true, false, not, cond, List, [], ◌∷◌, map, filter}
 use Rattle.std.specs.List.{AllByRecursion}
 use Rattle.std.specs.List.Sorted.{IsStrictlySortedBy}

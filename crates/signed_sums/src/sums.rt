@@ -36,7 +36,8 @@ fn add_to<K: Copy>(sum: &mut (K, i128), term: &(K, i128))
     sum.1 += term.1;
 }
 
-/// The sum of terms of which those with equal keys are neighbours: each key once, with the sum of its coefficients, unless that is 0.
+/// The sum of terms of which those with equal keys are neighbours: each key once, with the sum of
+/// its coefficients, unless that is 0.
 pub fn sum_of_neighbours<K: Copy + PartialEq>(
     alloc: Global,
     terms: &[(K, i128)],

@@ -9,7 +9,6 @@ use Rattle.std.specs.List.{AllByRecursion}
 use Rattle.std.proofs.Common.{sum, ◌≤◌}
 use Rattle.pooled_cuttings.proofs.beside.push_beside_row.Goals as goal
 
-
 pub push_beside-requires-clause-x : goal.push_beside-requires-clause-x
 push_beside-requires-clause-x c =
     let g = c.args.grove.now in

@@ -9,7 +9,6 @@ use Rattle.std.specs.List.{AllByRecursion}
 use Rattle.std.proofs.Common.{sum, ◌≤◌}
 use Rattle.pooled_cuttings.proofs.beside.push_beside_rows.Goals as goal
 
-
 pub push_beside_row-requires-clause-x : goal.push_beside_row-requires-clause-x
 push_beside_row-requires-clause-x c =
     let g = c.args.grove.now in

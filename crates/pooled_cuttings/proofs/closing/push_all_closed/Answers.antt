@@ -9,7 +9,6 @@ use Rattle.std.specs.List.{AllByRecursion}
 use Rattle.std.proofs.Common.{sum, ◌≤◌}
 use Rattle.pooled_cuttings.proofs.closing.push_all_closed.Goals as goal
 
-
 pub push_closed-requires-clause-x : goal.push_closed-requires-clause-x
 push_closed-requires-clause-x c =
     let g = c.args.grove.now in

@@ -9,7 +9,6 @@ use Rattle.std.specs.List.{AllByRecursion}
 use Rattle.std.proofs.Common.{sum, ◌≤◌}
 use Rattle.pooled_cuttings.proofs.inside.push_inside_row.Goals as goal
 
-
 pub push_inside-requires-clause-step : goal.push_inside-requires-clause-step
 push_inside-requires-clause-step c =
     record { known = rw c.loop-y.invariant.grown.pool.types c.requires.step.known; small = c.requires.step.small }

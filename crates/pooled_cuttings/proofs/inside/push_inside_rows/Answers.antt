@@ -9,7 +9,6 @@ use Rattle.std.specs.List.{AllByRecursion}
 use Rattle.std.proofs.Common.{sum, ◌≤◌}
 use Rattle.pooled_cuttings.proofs.inside.push_inside_rows.Goals as goal
 
-
 pub push_inside_row-requires-clause-step : goal.push_inside_row-requires-clause-step
 push_inside_row-requires-clause-step c =
     record { known = rw c.loop-x.invariant.grown.pool.types c.requires.step.known; small = c.requires.step.small }

@@ -15,7 +15,7 @@ grafted-requires-clause-fits c =
       c.plus-p.ensures,
       c.in_ok-part.ensures.grown.pool.types,
       graft_grown c.args.grove.now c.raised.new.self c.args.step.now.kind.0 (plus_of c.args.step.now.p.entries c.args.s.now.entries) c.args.x.now.quotient.0 c.args.y.now.quotient.0
-      c.in_ok-part.ensures.grown c.requires.x.quotient c.requires.y.quotient,
+          c.in_ok-part.ensures.grown c.requires.x.quotient c.requires.y.quotient,
     )
     (uncanon c.args.grove.now.pool.types _ c.requires.fits.quotient)
 

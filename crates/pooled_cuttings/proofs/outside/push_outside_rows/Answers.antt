@@ -9,7 +9,6 @@ use Rattle.std.specs.List.{AllByRecursion}
 use Rattle.std.proofs.Common.{sum, ◌≤◌}
 use Rattle.pooled_cuttings.proofs.outside.push_outside_rows.Goals as goal
 
-
 pub push_outside_row-requires-clause-step : goal.push_outside_row-requires-clause-step
 push_outside_row-requires-clause-step c =
     record { known = rw c.loop-x.invariant.grown.pool.types c.requires.step.known; small = c.requires.step.small }

@@ -9,7 +9,6 @@ use Rattle.std.specs.List.{AllByRecursion}
 use Rattle.std.proofs.Common.{sum, ◌≤◌}
 use Rattle.pooled_cuttings.proofs.outside.push_outside_shifts.Goals as goal
 
-
 pub push_outside_rows-requires-clause-step : goal.push_outside_rows-requires-clause-step
 push_outside_rows-requires-clause-step c =
     record { known = rw c.loop-s.invariant.grown.pool.types c.requires.step.known; small = c.requires.step.small }

@@ -13,7 +13,7 @@ grafted-requires-clause-fits c =
       c.plus-p.ensures,
       c.in_ok-left.ensures.grown.types,
       graft_later c.args.pool.now c.raised.new.pool c.args.edge.now.kind.0 (plus_of c.args.edge.now.p.entries c.args.s.now.entries) c.args.edge.now.child.0 c.args.y.now.right.0
-      c.in_ok-left.ensures.grown c.requires.edge.child c.requires.y.right,
+          c.in_ok-left.ensures.grown c.requires.edge.child c.requires.y.right,
     )
     (uncanon c.args.pool.now.types _ c.requires.fits.right)
 
