@@ -19,8 +19,7 @@ use tree_pool::{Pool, TreeId};
 /// The recentring coproducts that are finished, beside a pool. Contracts see the numbers of their
 /// trees with their terms, in the order in which they were finished.
 ///
-/// **Fit.** It is used with one pool: it fits a pool where what it holds are the recentring terms
-/// of
+/// **Fit.** It is used with one pool: it fits a pool where what it holds are the recentring terms of
 /// that pool's trees. A new one fits every pool, and it goes on fitting while the pool grows.
 #[derive(Drop)]
 pub struct Recentrer<'a> {
