@@ -1,5 +1,7 @@
 mod Statements
 mod Queries
+mod Undone
+mod Writing
 mod Finding
 mod Sorting
 mod Names

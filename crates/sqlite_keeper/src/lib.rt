@@ -4,6 +4,7 @@
 //! one transaction. Where the database refuses a statement for another cause than memory, the keeper's count of faults rises.
 #![tactic(auto)]
 
+mod autocommit;
 mod failure;
 mod keeper;
 mod project_table;

@@ -1,5 +1,5 @@
 // The statements on the table `project`.
-ghost use Rattle.std.specs.Prelude.{◌≡◌, [], ◌∷◌, ◌++◌, slice_get, IfOk, OnOk};
+ghost use Rattle.std.specs.Prelude.{◌≡◌, [], ◌∷◌, ◌++◌, slice_get, IfOk, OnOk, IsTrue};
 ghost use Rattle.std.specs.Option.{option_map};
 ghost use Rattle.std.specs.List.{filter_map};
 ghost use Rattle.std.specs.FinMap.{get};
@@ -10,6 +10,7 @@ ghost use Rattle.result_keeper.specs.Entries.{file_bytes};
 ghost use Rattle.result_keeper.specs.Kept.{names_in};
 ghost use Rattle.sqlite_keeper.specs.Tables.{IsStore, projects_in, shown_name};
 
+use crate::autocommit::query;
 use result_keeper::{ProjectName, Put};
 use sqlite::types::ValueRef;
 use sqlite::{Alter, Connection, Error, ErrorCode, Row, Transaction};
@@ -31,10 +32,12 @@ const MOST_PROJECTS: i64 = 10_000;
 
 // The rows with the file of a project: one at most.
 fn rows_named<S: Alter>(conn: &mut Connection<S>, name: &ProjectName) -> Result<Vec<Row>, Error>
-    ensures { HasCleanDisk (state S.Store conn.new) → IsStore (state S.Store conn.old).now
+    ensures rows { HasCleanDisk (state S.Store conn.new) → IsStore (state S.Store conn.old).now
         → IfOk result (λ rows. option_map (λ r. bytes (column r 0)) (slice_get rows.items 0) ≡ get (projects_in (state S.Store conn.old).now) name.now) }
+    ensures stays { HasCleanDisk (state S.Store conn.new) → IsTrue (state S.Store conn.new).is_open → IsStore (state S.Store conn.old).now
+        → (state S.Store conn.new).now ≡ (state S.Store conn.old).now }
 {
-    conn.query_all(SELECT_FILE, &[ValueRef::Text(name.bytes())])
+    query(conn, SELECT_FILE, &[ValueRef::Text(name.bytes())])
 }
 
 fn first_blob(rows: &[Row]) -> Result<Option<Vec<u8>>, Error>
@@ -51,8 +54,10 @@ pub fn find_file<S: Alter>(
     conn: &mut Connection<S>,
     name: &ProjectName,
 ) -> Result<Option<Vec<u8>>, Error>
-    ensures { HasCleanDisk (state S.Store conn.new) → IsStore (state S.Store conn.old).now
+    ensures file { HasCleanDisk (state S.Store conn.new) → IsStore (state S.Store conn.old).now
         → IfOk result (λ file. file_bytes file ≡ get (projects_in (state S.Store conn.old).now) name.now) }
+    ensures stays { HasCleanDisk (state S.Store conn.new) → IsTrue (state S.Store conn.new).is_open → IsStore (state S.Store conn.old).now
+        → (state S.Store conn.new).now ≡ (state S.Store conn.old).now }
 {
     let rows = rows_named(conn, name)?;
     first_blob(&rows)
@@ -111,10 +116,12 @@ fn name_in(row: &Row) -> Result<Option<ProjectName>, Error>
 
 // The rows of the projects by their names.
 fn named_rows<S: Alter>(conn: &mut Connection<S>) -> Result<Vec<Row>, Error>
-    ensures { HasCleanDisk (state S.Store conn.new) → IsStore (state S.Store conn.old).now
+    ensures rows { HasCleanDisk (state S.Store conn.new) → IsStore (state S.Store conn.old).now
         → IfOk result (λ rows. filter_map shown_name rows.items ≡ names_in (projects_in (state S.Store conn.old).now)) }
+    ensures stays { HasCleanDisk (state S.Store conn.new) → IsTrue (state S.Store conn.new).is_open → IsStore (state S.Store conn.old).now
+        → (state S.Store conn.new).now ≡ (state S.Store conn.old).now }
 {
-    conn.query_all(SELECT_NAMES, &[])
+    query(conn, SELECT_NAMES, &[])
 }
 
 fn push_name(names: &mut Vec<ProjectName>, row: &Row) -> Result<(), Error>
@@ -141,8 +148,10 @@ pub fn names_in_order<S: Alter>(
     alloc: Global,
     conn: &mut Connection<S>,
 ) -> Result<Vec<ProjectName>, Error>
-    ensures { HasCleanDisk (state S.Store conn.new) → IsStore (state S.Store conn.old).now
+    ensures names { HasCleanDisk (state S.Store conn.new) → IsStore (state S.Store conn.old).now
         → IfOk result (λ names. names.items ≡ names_in (projects_in (state S.Store conn.old).now)) }
+    ensures stays { HasCleanDisk (state S.Store conn.new) → IsTrue (state S.Store conn.new).is_open → IsStore (state S.Store conn.old).now
+        → (state S.Store conn.new).now ≡ (state S.Store conn.old).now }
 {
     let rows = named_rows(conn)?;
     names_shown(alloc, &rows)

@@ -1,5 +1,5 @@
 // The statements on the table `result`.
-ghost use Rattle.std.specs.Prelude.{◌≡◌, map, IfOk};
+ghost use Rattle.std.specs.Prelude.{◌≡◌, map, IfOk, IsTrue};
 ghost use Rattle.std.specs.FinMap.{entries};
 ghost use Rattle.sqlite.specs.State.{HasCleanDisk};
 ghost use Rattle.sqlite.specs.Held.{state};
@@ -7,6 +7,7 @@ ghost use Rattle.result_keeper.specs.Entries.{pair_of};
 ghost use Rattle.result_keeper.specs.Kept.{contexts_in, within};
 ghost use Rattle.sqlite_keeper.specs.Tables.{IsStore, results_in, shown_text, shown_pair};
 
+use crate::autocommit::query;
 use result_keeper::StoredRow;
 use sqlite::types::ValueRef;
 use sqlite::{Alter, Connection, Error, ErrorCode, Row};
@@ -21,10 +22,12 @@ const PUT_RESULT: &str =
 
 // A row for each context, in order.
 fn context_rows<S: Alter>(conn: &mut Connection<S>) -> Result<Vec<Row>, Error>
-    ensures { HasCleanDisk (state S.Store conn.new) → IsStore (state S.Store conn.old).now
+    ensures rows { HasCleanDisk (state S.Store conn.new) → IsStore (state S.Store conn.old).now
         → IfOk result (λ rows. map shown_text rows.items ≡ contexts_in (results_in (state S.Store conn.old).now)) }
+    ensures stays { HasCleanDisk (state S.Store conn.new) → IsTrue (state S.Store conn.new).is_open → IsStore (state S.Store conn.old).now
+        → (state S.Store conn.new).now ≡ (state S.Store conn.old).now }
 {
-    conn.query_all(SELECT_CONTEXTS, &[])
+    query(conn, SELECT_CONTEXTS, &[])
 }
 
 fn blob_in(row: &Row) -> Result<Vec<u8>, Error>
@@ -48,8 +51,10 @@ pub fn contexts_in_order<S: Alter>(
     alloc: Global,
     conn: &mut Connection<S>,
 ) -> Result<Vec<Vec<u8>>, Error>
-    ensures { HasCleanDisk (state S.Store conn.new) → IsStore (state S.Store conn.old).now
+    ensures contexts { HasCleanDisk (state S.Store conn.new) → IsStore (state S.Store conn.old).now
         → IfOk result (λ contexts. map (λ c. c.items) contexts.items ≡ contexts_in (results_in (state S.Store conn.old).now)) }
+    ensures stays { HasCleanDisk (state S.Store conn.new) → IsTrue (state S.Store conn.new).is_open → IsStore (state S.Store conn.old).now
+        → (state S.Store conn.new).now ≡ (state S.Store conn.old).now }
 {
     let rows = context_rows(conn)?;
     blobs_shown(alloc, &rows)
@@ -57,10 +62,12 @@ pub fn contexts_in_order<S: Alter>(
 
 // The rows of a context, in the order of their trees.
 fn rows_within<S: Alter>(conn: &mut Connection<S>, context: &[u8]) -> Result<Vec<Row>, Error>
-    ensures { HasCleanDisk (state S.Store conn.new) → IsStore (state S.Store conn.old).now
+    ensures rows { HasCleanDisk (state S.Store conn.new) → IsStore (state S.Store conn.old).now
         → IfOk result (λ rows. map shown_pair rows.items ≡ within context.now (entries (results_in (state S.Store conn.old).now))) }
+    ensures stays { HasCleanDisk (state S.Store conn.new) → IsTrue (state S.Store conn.new).is_open → IsStore (state S.Store conn.old).now
+        → (state S.Store conn.new).now ≡ (state S.Store conn.old).now }
 {
-    conn.query_all(SELECT_RESULTS, &[ValueRef::Blob(context)])
+    query(conn, SELECT_RESULTS, &[ValueRef::Blob(context)])
 }
 
 fn stored_row(row: &Row) -> Result<StoredRow, Error>
@@ -87,8 +94,10 @@ pub fn results_in_order<S: Alter>(
     conn: &mut Connection<S>,
     context: &[u8],
 ) -> Result<Vec<StoredRow>, Error>
-    ensures { HasCleanDisk (state S.Store conn.new) → IsStore (state S.Store conn.old).now
+    ensures rows { HasCleanDisk (state S.Store conn.new) → IsStore (state S.Store conn.old).now
         → IfOk result (λ found. map pair_of found.items ≡ within context.now (entries (results_in (state S.Store conn.old).now))) }
+    ensures stays { HasCleanDisk (state S.Store conn.new) → IsTrue (state S.Store conn.new).is_open → IsStore (state S.Store conn.old).now
+        → (state S.Store conn.new).now ≡ (state S.Store conn.old).now }
 {
     let rows = rows_within(conn, context)?;
     rows_shown(alloc, &rows)
