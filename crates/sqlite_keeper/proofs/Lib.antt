@@ -2,6 +2,8 @@ mod Statements
 mod Queries
 mod Undone
 mod Writing
+mod Removing
+mod ProjectRows
 mod Finding
 mod Sorting
 mod Names

@@ -1,16 +1,17 @@
 // The statements on the table `project`.
-ghost use Rattle.std.specs.Prelude.{◌≡◌, [], ◌∷◌, ◌++◌, slice_get, IfOk, OnOk, IsTrue};
+ghost use Rattle.std.specs.Prelude.{◌≡◌, [], ◌∷◌, ◌++◌, slice_get, IfOk, OnOk, OnErr, IsTrue};
 ghost use Rattle.std.specs.Option.{option_map};
 ghost use Rattle.std.specs.List.{filter_map};
-ghost use Rattle.std.specs.FinMap.{get};
+ghost use Rattle.std.specs.FinMap.{get, contains_key, insert, remove};
 ghost use Rattle.sqlite.specs.State.{HasCleanDisk};
 ghost use Rattle.sqlite.specs.Held.{state};
 ghost use Rattle.sqlite.specs.Order.{column, bytes};
 ghost use Rattle.result_keeper.specs.Entries.{file_bytes};
 ghost use Rattle.result_keeper.specs.Kept.{names_in};
-ghost use Rattle.sqlite_keeper.specs.Tables.{IsStore, projects_in, shown_name};
+ghost use Rattle.sqlite_keeper.specs.Tables.{IsStore, projects_in, results_in, shown_name};
+ghost use Rattle.sqlite_keeper.specs.Changes.{HasTables};
 
-use crate::autocommit::query;
+use crate::autocommit::{execute, query};
 use result_keeper::{ProjectName, Put};
 use sqlite::types::ValueRef;
 use sqlite::{Alter, Connection, Error, ErrorCode, Row, Transaction};
@@ -99,8 +100,15 @@ pub fn put_file<S: Alter>(
 }
 
 // Gives up a project, and says whether it was kept.
-pub fn remove_file<S: Alter>(conn: &mut Connection<S>, name: &ProjectName) -> Result<bool, Error> {
-    let removed = conn.execute(DELETE_PROJECT, &[ValueRef::Text(name.bytes())])?;
+pub fn remove_file<S: Alter>(conn: &mut Connection<S>, name: &ProjectName) -> Result<bool, Error>
+    ensures kept { HasCleanDisk (state S.Store conn.new) → IsStore (state S.Store conn.old).now
+        → IfOk result (λ kept. kept ≡ contains_key (projects_in (state S.Store conn.old).now) name.now) }
+    ensures removed { HasCleanDisk (state S.Store conn.new) → IsStore (state S.Store conn.old).now
+        → OnOk result (HasTables (remove (projects_in (state S.Store conn.old).now) name.now) (results_in (state S.Store conn.old).now) (state S.Store conn.new).now) }
+    ensures err { HasCleanDisk (state S.Store conn.new) → IsTrue (state S.Store conn.new).is_open
+        → OnErr result ((state S.Store conn.new).now ≡ (state S.Store conn.old).now) }
+{
+    let removed = execute(conn, DELETE_PROJECT, &[ValueRef::Text(name.bytes())])?;
     Ok(removed > 0)
 }
 
