@@ -1,12 +1,12 @@
 -- What the look-up of a file answers.
-use Rattle.std.proofs.Common.{◌≡◌, inl, inr, if◌then◌else◌, ℕ, suc, List, [], ◌∷◌, map, filter, slice_get, Bool, true, false, cond, Some, None, Option, Ok, Err, Result, refl, sym, ap, subst, subst₂, ◌∙◌, IfOk, Vec, Global, arith, All}
+use Rattle.std.proofs.Common.{◌≡◌, inl, inr, if◌then◌else◌, ℕ, suc, List, [], ◌∷◌, map, filter, slice_get, Bool, true, false, cond, is_some, Some, None, Option, Ok, Err, Result, refl, sym, ap, subst, subst₂, ◌∙◌, IfOk, Vec, Global, arith, All}
 use Rattle.std.specs.Option.{option_to_list, option_map}
 use Rattle.std.specs.List.{flat_map, list_all, AllByRecursion, IsDistinct}
 use Rattle.std.specs.List.Sorted.{IsPermutation}
 use Rattle.std.specs.Ordering.{is_eq, eq_by_cmp}
 use Rattle.std.specs.Cmp.{eq_by_cmp_equiv, Equal-is}
 use Rattle.std.proofs.lemmas.Simd.{map-map}
-use Rattle.std.specs.FinMap.{get, find, get-from_entries}
+use Rattle.std.specs.FinMap.{get, find, get-from_entries, contains_key}
 use Rattle.std.proofs.lemmas.Bool.{cases_Bool}
 use Rattle.std.proofs.lemmas.List.Sorted.{IsPermutation-map, length_permutation}
 use Rattle.sqlite_value.proofs.OrderLemmas.{value_cmp-Text}
@@ -107,3 +107,11 @@ pub file_of_if : (old new : State) (name : List ℕ) (result : Result (Vec Row G
     → IfOk result (λ rows. option_map (λ r. bytes (column r 0)) (slice_get rows.items 0) ≡ get (projects_in old.now) name)
 file_of_if old new name (Err e) is h = tt
 file_of_if old new name (Ok rows) is h = file_of old new name rows.items is h
+
+-- whether a row is found tells whether the project is kept
+pub kept_of : (old new : State) (name : List ℕ) (rows : List Row) → IsStore old.now → Shown file_text (Text name ∷ []) old new rows → is_some (slice_get rows 0) ≡ contains_key (projects_in old.now) name
+kept_of old new name rows is h = some_map rows ∙ ap is_some (file_of old new name rows is h)
+  where
+    some_map : (xs : List Row) → is_some (slice_get xs 0) ≡ is_some (option_map (λ r. bytes (column r 0)) (slice_get xs 0))
+    some_map [] = refl
+    some_map (x ∷ xs) = refl

@@ -4,6 +4,8 @@ mod Undone
 mod Writing
 mod Removing
 mod ProjectRows
+mod Within
+mod Counting
 mod Finding
 mod Sorting
 mod Names

@@ -4,9 +4,9 @@ use Rattle.std.specs.Option.{option_to_list}
 use Rattle.std.specs.List.{AllByRecursion, IsDistinct, flat_map}
 use Rattle.std.specs.List.Sorted.{IsPermutation}
 use Rattle.std.specs.Ordering.{eq_by_cmp}
-use Rattle.std.specs.Cmp.{eq_by_cmp_equiv}
+use Rattle.std.specs.Cmp.{eq_by_cmp_equiv, IsTotalOrder}
 use Rattle.std.specs.declared.cmp.Ordering.{Ordering}
-use Rattle.std.specs.FinMap.{get, find, from_entries, remove, insert, contains_key, get-from_entries}
+use Rattle.std.specs.FinMap.{FinMap, IsAntisymmetric, get, find, from_entries, remove, insert, contains_key, get-from_entries, get-insert, get-remove, same_map}
 use Rattle.std.proofs.lemmas.Bool.{cases_Bool}
 use Rattle.std.proofs.lemmas.List.{length-map}
 use Rattle.std.proofs.lemmas.List.Sorted.{IsPermutation-map, length_permutation}
@@ -24,12 +24,12 @@ use Rattle.sqlite.specs.Command.TheVariants.{Insert, Delete}
 use Rattle.sqlite.specs.Source.TheVariants.{Values}
 use Rattle.sqlite.specs.Effect.{Database}
 use Rattle.sqlite.specs.Does.{Does}
-use Rattle.sqlite.specs.State.{State, mode_of, Executes}
+use Rattle.sqlite.specs.State.{State, mode_of, Executes, ExecutesInside}
 use Rattle.sqlite.specs.Listing.{understood}
 use Rattle.sqlite.proofs.Callers.{statement_of, runs_as}
 use Rattle.sqlite_trees.proofs.TreeLemmas.{all-put_row, IsTable-put_row}
 use Rattle.result_keeper.specs.ProjectName.{is_project_name}
-use Rattle.result_keeper.specs.Kept.{bytes_cmp, row_cmp}
+use Rattle.result_keeper.specs.Kept.{bytes_cmp, row_cmp, Projects, Rows}
 use Rattle.result_keeper.specs.Entries.{AreApart}
 use Rattle.result_keeper.proofs.Orders.{bytes_total, bytes_exact}
 use Rattle.result_keeper.proofs.Maps.{same_in_any_order}
@@ -197,3 +197,35 @@ added_tables name file old new fine is free a =
       projects = sym (same_in_any_order bytes_cmp bytes_total bytes_cmp bytes_total bytes_exact bytes_exact es (map project_entry (project_rows new)) apart moved);
       rows = ap (λ l. from_entries (map result_entry l)) a.results;
     }
+
+pub delete_within : (old new : State) (name : List ℕ) (r : Result ℕ Error) → IsStore old.now → ExecutesInside 0 delete_project_text (Text name ∷ []) old new r
+    → OnOk r (HasTables (remove (projects_in old.now) name) (results_in old.now) new.now)
+delete_within old new name (Err e) is h = tt
+delete_within old new name (Ok n) is h = removed_tables name old.now new.now n is (removes_project old new name n is h.0)
+
+pub insert_within : (old new : State) (name file : List ℕ) (r : Result ℕ Error) → is_project_name name ≡ true → IsStore old.now → contains_key (projects_in old.now) name ≡ false
+    → ExecutesInside 0 insert_project_text (Text name ∷ Blob file ∷ []) old new r → OnOk r (HasTables (insert (projects_in old.now) name file) (results_in old.now) new.now)
+insert_within old new name file (Err e) fine is free h = tt
+insert_within old new name file (Ok n) fine is free h = added_tables name file old.now new.now fine is free (adds_project old new name file n is h.0)
+
+-- a key that is taken out and put in again is put in
+pub put_again : {K X : Type 0} (R : K → K → Ordering) → IsTotalOrder R → IsAntisymmetric R → (m : FinMap R X) (k : K) (v : X) → insert (remove m k) k v ≡ insert m k v
+put_again R o exact m k v = same_map o exact (insert (remove m k) k v) (insert m k v) (λ q.
+    get-insert o (remove m k) k v q
+    ∙ ap (cond (eq_by_cmp R q k) (Some v)) (get-remove o m k q)
+    ∙ twice_same (eq_by_cmp R q k) (Some v) None (get m q)
+    ∙ sym (get-insert o m k v q))
+  where
+    twice_same : {A : Type 0} (b : Bool) (x y z : A) → cond b x (cond b y z) ≡ cond b x z
+    twice_same true x y z = refl
+    twice_same false x y z = refl
+
+pub removed_key : {K X : Type 0} (R : K → K → Ordering) → IsTotalOrder R → (m : FinMap R X) (k : K) → contains_key (remove m k) k ≡ false
+removed_key R o m k = ap is_some (get-remove o m k k) ∙ ap (λ b. is_some (cond b None (get m k))) ((eq_by_cmp_equiv o).refl k)
+
+pub replaced : (r : Result ℕ Error) (m : Projects) (rows : Rows) (mid new : Database) (name file : List ℕ) → HasTables (remove m name) rows mid
+    → (IsStore mid → contains_key (projects_in mid) name ≡ false → OnOk r (HasTables (insert (projects_in mid) name file) (results_in mid) new)) → OnOk r (HasTables (insert m name file) rows new)
+replaced (Err e) m rows mid new name file t h = tt
+replaced (Ok n) m rows mid new name file t h =
+    let it = h t.is (ap (λ x. contains_key x name) t.projects ∙ removed_key bytes_cmp bytes_total m name) in
+    record { is = it.is; projects = it.projects ∙ ap (λ x. insert x name file) t.projects ∙ put_again bytes_cmp bytes_total bytes_exact m name file; rows = it.rows ∙ t.rows }

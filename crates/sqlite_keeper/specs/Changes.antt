@@ -1,7 +1,10 @@
 -- What the calls leave.
 --   HasTables kept held db == the database is a store with these projects and these rows of results
-use Rattle.std.specs.Prelude.{◌≡◌}
+--   RunsWithin old new result == of a call within a transaction: the transaction goes on where the call succeeds, and the last commit stays
+use Rattle.std.specs.Prelude.{◌≡◌, Result, IsTrue, OnOk}
+use Rattle.sqlite.specs.declared.error.Error.{Error}
 use Rattle.sqlite.specs.Effect.{Database}
+use Rattle.sqlite.specs.State.{State, HasCleanDisk, KeepsCommit}
 use Rattle.result_keeper.specs.Kept.{Projects, Rows}
 use Rattle.sqlite_keeper.specs.Tables.{IsStore, projects_in, results_in}
 
@@ -9,3 +12,8 @@ pub record HasTables (kept : Projects) (held : Rows) (db : Database) : Type 0 wh
   pub is : IsStore db
   pub projects : projects_in db ≡ kept
   pub rows : results_in db ≡ held
+
+pub record RunsWithin {X : Type 0} (old new : State) (result : Result X Error) : Type 0 where
+  pub clean : HasCleanDisk new → HasCleanDisk old
+  pub goes_on : HasCleanDisk new → IsTrue old.in_transaction → OnOk result (IsTrue new.in_transaction)
+  pub commit : HasCleanDisk new → IsTrue old.in_transaction → KeepsCommit old new

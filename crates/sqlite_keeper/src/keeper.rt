@@ -2,7 +2,7 @@
 ghost use Rattle.std.specs.Prelude.{◌≡◌, None, IfOk, if◌then◌else◌};
 
 use crate::failure::{counted, uncounted};
-use crate::project_table::{find_file, names_in_order, put_file, remove_file};
+use crate::project_table::{find_file, keep_file, names_in_order, remove_file};
 use crate::result_table::{contexts_in_order, put_rows, results_in_order};
 use crate::schema::make_tables;
 use crate::version::{is_old, migrate};
@@ -80,7 +80,7 @@ impl<S: Alter> Keeper for SqliteKeeper<S> {
         name: &ProjectName,
         file: &[u8],
     ) -> Result<Put, KeeperError> {
-        match put_file(&mut self.conn, name, file) {
+        match keep_file(&mut self.conn, name, file) {
             Ok(put) => Ok(put),
             Err(error) => Err(counted(&mut self.faults, error)),
         }

@@ -1,0 +1,102 @@
+-- Calls within a transaction, and how it ends.
+use Rattle.std.proofs.Common.{◌≡◌, ◌⊎◌, inl, inr, ℕ, List, Bool, true, false, true≢false, Ok, Err, Result, IsTrue, OnOk, OnErr, IfOk, IfErr, IsErr, refl, sym, ap, subst, ◌∙◌, arith, Vec, Global}
+use Rattle.sqlite.specs.declared.error.Error.{Error}
+use Rattle.sqlite.specs.Order.{Row}
+use Rattle.sqlite.specs.Tree.{Trees}
+use Rattle.sqlite.specs.Effect.{Database}
+use Rattle.sqlite.specs.Listing.{understood}
+use Rattle.sqlite.specs.State.{State, HasCleanDisk, KeepsCommit, IsUnchanged, IsRolledBack, Survives, Shows, Shown, Executes, ExecutesInside, FailsToQuery, IsTooLate}
+use Rattle.sqlite.specs.Steps.{FailsToCommit}
+use Rattle.sqlite.proofs.Callers.{IsPlain}
+use Rattle.sqlite_keeper.specs.Schema.{store_schema}
+use Rattle.sqlite_keeper.specs.Changes.{RunsWithin}
+use Rattle.sqlite_keeper.proofs.Queries.{unchanged_as}
+use Rattle.sqlite_keeper.proofs.Undone.{IsLeft, query_left}
+
+keeps_unchanged : (old new : State) → IsUnchanged old new → KeepsCommit old new
+keeps_unchanged old new same = record { was_open = λ live. same.0.was_open; committed = λ live. same.0.committed_is }
+
+keeps_left : (old new : State) → IsLeft old new → KeepsCommit old new
+keeps_left old new (inl same) = keeps_unchanged old new same
+keeps_left old new (inr back) = record { was_open = back.was_open; committed = λ live. (back.undone live).1 }
+
+module _ (sql : List ℕ) (params : Row) (old new : State) where
+  inside_goes : (r : Result ℕ Error) → ExecutesInside 0 sql params old new r → OnOk r (IsTrue new.in_transaction)
+  inside_goes (Ok n) h = h.1.mode
+  inside_goes (Err e) h = tt
+
+  inside_keeps : (r : Result ℕ Error) → ExecutesInside 0 sql params old new r → KeepsCommit old new
+  inside_keeps (Ok n) h = record { was_open = λ live. h.1.was_open; committed = λ live. h.1.committed_is }
+  inside_keeps (Err e) (inl h) = keeps_left old new h.1
+  inside_keeps (Err e) (inr h) = keeps_unchanged old new h.2
+
+  -- a statement within a transaction
+  pub runs_within : {P : Trees → Type 0} (r : Result ℕ Error) → Survives old new P → (HasCleanDisk new → IsTrue old.in_transaction → ExecutesInside 0 sql params old new r) → RunsWithin old new r
+  runs_within r s h = record {
+    clean = λ c. omega (arith, c, s.clean);
+    goes_on = λ c on. inside_goes r (h c on);
+    commit = λ c on. inside_keeps r (h c on);
+  }
+
+  pub ran_ok : (n : ℕ) → ExecutesInside 0 sql params old new (Ok n) → Executes sql params old new (Ok n)
+  ran_ok n h = h.0
+
+  query_keeps : {X : Type 0} (r : Result X Error) (Gives : X → Type 0) → ((x : X) → Gives x → IsUnchanged old new) → IfOk r Gives
+      → IfErr r (λ e. FailsToQuery sql params old new e ⊎ IsTooLate sql params old new e) → IsTrue old.in_transaction → OnOk r (IsTrue new.in_transaction) × KeepsCommit old new
+  query_keeps (Ok x) Gives same h e on = let it = same x h in (it.0.mode ∙ on, keeps_unchanged old new it)
+  query_keeps (Err f) Gives same h (inl e) on = (tt, keeps_left old new (query_left sql params old new f e))
+  query_keeps (Err f) Gives same h (inr e) on = (tt, keeps_unchanged old new e.5)
+
+  -- a query within a transaction
+  pub reads_within : {P : Trees → Type 0} (r : Result (Vec Row Global) Error) → IsPlain (understood store_schema sql) → old.now.schema ≡ store_schema → Survives old new P
+      → (HasCleanDisk new → IfOk r (λ rows. Shown sql params old new rows.items)) → (HasCleanDisk new → IfErr r (λ e. FailsToQuery sql params old new e ⊎ IsTooLate sql params old new e)) → RunsWithin old new r
+  reads_within r plain has s ok err =
+      let own = subst (λ t. IsPlain (understood t sql)) (sym has) plain in
+      let all = λ (c : HasCleanDisk new) (on : IsTrue old.in_transaction). query_keeps r (λ rows. Shown sql params old new rows.items) (λ rows h. unchanged_as sql params old new rows.items own h) (ok c) (err c) on in
+      record {
+        clean = λ c. omega (arith, c, s.clean);
+        goes_on = λ c on. (all c on).0;
+        commit = λ c on. (all c on).1;
+      }
+
+module _ (a b c : State) where
+  keeps_then : KeepsCommit a b → KeepsCommit b c → KeepsCommit a c
+  keeps_then p q = record { was_open = λ live. p.was_open (q.was_open live); committed = λ live. q.committed live ∙ p.committed (q.was_open live) }
+
+  -- one call after another that succeeded
+  pub within_then : {X Y : Type 0} (x : X) (r : Result Y Error) → RunsWithin a b (Ok x) → RunsWithin b c r → RunsWithin a c r
+  within_then x r p q = record {
+    clean = λ k. p.clean (q.clean k);
+    goes_on = λ k on. q.goes_on k (p.goes_on (q.clean k) on);
+    commit = λ k on. keeps_then (p.commit (q.clean k) on) (q.commit k (p.goes_on (q.clean k) on));
+  }
+
+-- the answer of a call does not matter for what it leaves
+pub within_ok : {X Y : Type 0} (a b : State) (x : X) (y : Y) → RunsWithin a b (Ok x) → RunsWithin a b (Ok y)
+within_ok a b x y p = record { clean = p.clean; goes_on = p.goes_on; commit = p.commit }
+
+pub within_err : {X Y : Type 0} (a b : State) (e f : Error) → RunsWithin {X = X} a b (Err e) → RunsWithin {X = Y} a b (Err f)
+within_err a b e f p = record { clean = p.clean; goes_on = λ c on. tt; commit = p.commit }
+
+pub within_fails : {X Y : Type 0} (a b : State) (r : Result X Error) (s : Result Y Error) → IsErr s → RunsWithin a b r → RunsWithin a b s
+within_fails a b r s failed p = record { clean = p.clean; goes_on = λ c on. none s failed; commit = p.commit }
+  where
+    none : {Z : Type 0} {P : Type 0} (t : Result Z Error) → IsErr t → OnOk t P
+    none (Ok z) h = absurd (let m : false ≡ true = h in cc)
+    none (Err f) h = tt
+
+-- nothing was done
+pub within_still : {X : Type 0} (a : State) (e : Error) → RunsWithin {X = X} a a (Err e)
+within_still a e = record { clean = λ c. c; goes_on = λ c on. tt; commit = λ c on. record { was_open = λ live. live; committed = λ live. refl } }
+
+-- a transaction that is given up leaves what was there before it
+pub given_up : (first before after last : State) → (IsTrue first.is_open → first.now ≡ first.committed) → (before.committed ≡ first.committed) → (IsTrue before.is_open → IsTrue first.is_open)
+    → KeepsCommit before after → IsRolledBack after last → IsTrue last.is_open → last.now ≡ first.now
+given_up first before after last settled begun open_before keeps back live =
+    let still = back.was_open live in
+    (back.undone live).0 ∙ keeps.committed still ∙ begun ∙ sym (settled (open_before (keeps.was_open still)))
+
+-- so does one whose commit fails
+pub commit_failed : (old new : State) (e : Error) → IsTrue old.in_transaction → FailsToCommit old new e → IsRolledBack old new
+commit_failed old new e inside (inl failed) = failed.3
+commit_failed old new e inside (inr outside) = absurd (true≢false (sym inside ∙ outside.1))
