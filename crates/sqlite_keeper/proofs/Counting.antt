@@ -1,5 +1,5 @@
 -- What counting the rows of a table answers.
-use Rattle.std.proofs.Common.{◌≡◌, ◌≢◌, ℕ, ℤ, ◌+◌, ◌≤◌, filter, min, pos, negsuc, nat_le, codes, List, [], ◌∷◌, ◌++◌, map, length, slice_index_or, Bool, true, false, Some, None, Option, Ok, Err, Result, refl, sym, ap, subst, ◌∙◌, arith, tests, IfOk, Vec, Global}
+use Rattle.std.proofs.Common.{◌≡◌, ◌≢◌, ℕ, suc, ℤ, ◌+◌, ◌≤◌, filter, min, pos, negsuc, nat_le, codes, List, [], ◌∷◌, ◌++◌, map, length, slice_index_or, Bool, true, false, Some, None, Option, Ok, Err, Result, refl, sym, ap, subst, ◌∙◌, arith, tests, IfOk, Vec, Global}
 use Rattle.std.specs.List.{AllZip, flat_map}
 use Rattle.std.specs.List.Sorted.{IsPermutation}
 use Rattle.std.specs.FinMap.{len}
@@ -77,20 +77,20 @@ one_summary group (r ∷ s ∷ rows) h = absurd h.1
 
 all_matches : (rows : List Row) → length (flat_map (λ (r : Row). ([] ∷ r ∷ []) ∷ []) rows) ≡ length rows
 all_matches [] = refl
-all_matches (r ∷ rows) = ap (λ n. 1 + n) (all_matches rows)
+all_matches (r ∷ rows) = ap suc (all_matches rows)
 
 -- the answer to a count is one row with the number of rows
-pub counted : (tree : ℕ) (db : ℕ → List Row) (rows : List Row) → IsAnswer (count_query tree) (overlay db []) [] rows → rows ≡ (count (length (db tree)) ∷ []) ∷ []
-counted tree db rows a =
-    let all = flat_map (λ (r : Row). ([] ∷ r ∷ []) ∷ []) (db tree) in
+pub counted : (db : ℕ → List Row) (rows : List Row) → IsAnswer (count_query 0) (overlay db []) [] rows → rows ≡ (count (length (db 0)) ∷ []) ∷ []
+counted db rows a =
+    let all = flat_map (λ (r : Row). ([] ∷ r ∷ []) ∷ []) (db 0) in
     let s : Summarizes as_one [] all a.staged = a.grouped in
     let order = s.grouping.0 in
     let one = one_summary order s.rows (subst (λ gs. AllZip (IsSummary as_one) gs s.rows) s.grouping.2 s.summaries) in
-    let width : length order ≡ length (db tree) = length_permutation all order s.grouping.1 ∙ all_matches (db tree) in
-    let row = count (length (db tree)) ∷ [] in
+    let width : length order ≡ length (db 0) = length_permutation all order s.grouping.1 ∙ all_matches (db 0) in
+    let row = count (length (db 0)) ∷ [] in
     let staged : a.staged ≡ ([] ∷ row ∷ []) ∷ [] = s.having ∙ ap (λ rs. filter (λ (e : Env). true) (map (λ (r : Row). [] ∷ r ∷ []) rs)) (one ∙ ap (λ n. (count n ∷ []) ∷ []) width) in
     let o : Output = ([], row) in
-    let kept : a.kept ≡ o ∷ [] = a.distinct ∙ ap (map (output (count_query tree))) staged in
+    let kept : a.kept ≡ o ∷ [] = a.distinct ∙ ap (map (output (count_query 0))) staged in
     let ordered = one_permutation o a.ordered (subst (λ k. IsPermutation k a.ordered) kept a.same) in
     a.shown ∙ ap (map (λ (p : Output). p.1)) ordered
 
@@ -102,7 +102,7 @@ pub number_of_rows : (old new : State) (rows : List Row) (z : ℤ) → IsStore o
     → z ≡ pos (min (length (project_rows old.now)) 9223372036854775807)
 number_of_rows old new rows z is h first =
     let got = reads_as count_projects_text [] old new store_schema is.schema _ count_projects_is.0 count_projects_plain count_projects_is.1 rows h in
-    let found = counted 0 old.now.trees rows (got.answer Null) in
+    let found = counted old.now.trees rows (got.answer Null) in
     let number : Int z ≡ count (length (project_rows old.now)) = sym first ∙ ap (λ rs. column (slice_index_or rs 0 []) 0) found in
     cc
 

@@ -6,6 +6,7 @@ mod Removing
 mod ProjectRows
 mod Within
 mod Counting
+mod ResultRows
 mod Finding
 mod Sorting
 mod Names

@@ -79,11 +79,11 @@ pub within_err : {X Y : Type 0} (a b : State) (e f : Error) → RunsWithin {X = 
 within_err a b e f p = record { clean = p.clean; goes_on = λ c on. tt; commit = p.commit }
 
 pub within_fails : {X Y : Type 0} (a b : State) (r : Result X Error) (s : Result Y Error) → IsErr s → RunsWithin a b r → RunsWithin a b s
-within_fails a b r s failed p = record { clean = p.clean; goes_on = λ c on. none s failed; commit = p.commit }
+within_fails a b r s failed p = record { clean = p.clean; goes_on = λ c on. none _ s failed; commit = p.commit }
   where
-    none : {Z : Type 0} {P : Type 0} (t : Result Z Error) → IsErr t → OnOk t P
-    none (Ok z) h = absurd (let m : false ≡ true = h in cc)
-    none (Err f) h = tt
+    none : {Z : Type 0} (P : Type 0) (t : Result Z Error) → IsErr t → OnOk t P
+    none P (Ok z) h = absurd (let m : false ≡ true = h in cc)
+    none P (Err f) h = tt
 
 -- nothing was done
 pub within_still : {X : Type 0} (a : State) (e : Error) → RunsWithin {X = X} a a (Err e)

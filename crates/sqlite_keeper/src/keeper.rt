@@ -3,7 +3,7 @@ ghost use Rattle.std.specs.Prelude.{◌≡◌, None, IfOk, if◌then◌else◌};
 
 use crate::failure::{counted, uncounted};
 use crate::project_table::{find_file, keep_file, names_in_order, remove_file};
-use crate::result_table::{contexts_in_order, put_rows, results_in_order};
+use crate::result_table::{contexts_in_order, keep_rows, results_in_order};
 use crate::schema::make_tables;
 use crate::version::{is_old, migrate};
 use result_keeper::{ContextPair, Keeper, KeeperError, ProjectName, Put, StoredRow};
@@ -120,7 +120,7 @@ impl<S: Alter> Keeper for SqliteKeeper<S> {
         context: &[u8],
         rows: &[StoredRow],
     ) -> Result<(), KeeperError> {
-        match put_rows(&mut self.conn, context, rows) {
+        match keep_rows(&mut self.conn, context, rows) {
             Ok(()) => Ok(()),
             Err(error) => Err(counted(&mut self.faults, error)),
         }
