@@ -7,6 +7,7 @@ mod ProjectRows
 mod Within
 mod Counting
 mod ResultRows
+mod Telling
 mod Finding
 mod Sorting
 mod Names

@@ -1,5 +1,5 @@
 -- What the statements on the table of results make of it.
-use Rattle.std.proofs.Common.{◌≡◌, ◌≢◌, ◌&&◌, not, inl, inr, ℕ, List, [], ◌∷◌, map, filter, Bool, true, false, is_some, Some, None, Ok, Err, Result, refl, sym, ap, subst, subst₂, ◌∙◌, arith, All, OnOk, Ordering, Less, Equal, Greater}
+use Rattle.std.proofs.Common.{◌≡◌, ◌≢◌, ◌&&◌, if◌then◌else◌, not, inl, inr, ℕ, zero, suc, ◌≤◌, length, take, ◌++◌, List, [], ◌∷◌, map, filter, Bool, true, false, is_some, Some, None, Ok, Err, Result, refl, sym, ap, subst, subst₂, ◌∙◌, arith, All, OnOk, Ordering, Less, Equal, Greater}
 use Rattle.std.specs.List.{AllByRecursion, IsDistinct, list_all, flat_map}
 use Rattle.std.specs.List.Sorted.{IsPermutation}
 use Rattle.std.specs.Ordering.{eq_by_cmp, is_eq, ordering_then}
@@ -28,8 +28,9 @@ use Rattle.sqlite.specs.State.{State, mode_of, Executes, ExecutesInside}
 use Rattle.sqlite.specs.Listing.{understood}
 use Rattle.sqlite.proofs.Callers.{statement_of, runs_as}
 use Rattle.sqlite_trees.proofs.TreeLemmas.{all-put_row, IsTable-put_row}
-use Rattle.result_keeper.specs.Kept.{bytes_cmp, row_cmp, Projects, Rows}
-use Rattle.result_keeper.specs.Entries.{AreApart}
+use Rattle.result_keeper.specs.Kept.{bytes_cmp, row_cmp, Projects, Rows, put_rows}
+use Rattle.result_keeper.specs.Entries.{AreApart, pair_of}
+use Rattle.result_keeper.specs.declared.StoredRow.{StoredRow}
 use Rattle.result_keeper.proofs.Orders.{bytes_total, bytes_exact, row_total, row_exact}
 use Rattle.result_keeper.proofs.Maps.{same_in_any_order}
 use Rattle.result_keeper.proofs.PlaceLemmas as place
@@ -195,3 +196,26 @@ replaced (Err e) m rows mid new c t v h f = tt
 replaced (Ok n) m rows mid new c t v h f =
     let it = f h.is (ap (λ x. contains_key x (c, t)) h.rows ∙ removed_key row_cmp row_total rows (c, t)) in
     record { is = it.is; projects = it.projects ∙ h.projects; rows = it.rows ∙ ap (λ x. insert x (c, t) v) h.rows ∙ put_again row_cmp row_total row_exact rows (c, t) v }
+
+put_pushed : (c : List ℕ) (given : List (List ℕ × List ℕ)) (x : List ℕ × List ℕ) (m : Rows) → put_rows c (given ++ x ∷ []) m ≡ insert (put_rows c given m) (c, x.0) x.1
+put_pushed c [] x m = refl
+put_pushed c (y ∷ given) x m = put_pushed c given x (insert m (c, y.0) y.1)
+
+pairs_pushed : (rows : List StoredRow) (row : StoredRow) → map pair_of (rows ++ row ∷ []) ≡ map pair_of rows ++ pair_of row ∷ []
+pairs_pushed [] row = refl
+pairs_pushed (r ∷ rows) row = ap (λ (l : List (List ℕ × List ℕ)). pair_of r ∷ l) (pairs_pushed rows row)
+
+-- the rows that were put so far, and one more
+pub put_more : (first mid new : Database) (c : List ℕ) (rows more : List StoredRow) (row : StoredRow) → more ≡ rows ++ row ∷ [] → HasTables (projects_in first) (put_rows c (map pair_of rows) (results_in first)) mid
+    → HasTables (projects_in mid) (insert (results_in mid) (c, row.tree.items) row.value.items) new → HasTables (projects_in first) (put_rows c (map pair_of more) (results_in first)) new
+put_more first mid new c rows more row is before after = record {
+  is = after.is;
+  projects = after.projects ∙ before.projects;
+  rows = after.rows ∙ ap (λ m. insert m (c, row.tree.items) row.value.items) before.rows ∙ sym (put_pushed c (map pair_of rows) (pair_of row) (results_in first)) ∙ ap (λ l. put_rows c l (results_in first)) (sym (ap (map pair_of) is ∙ pairs_pushed rows row));
+}
+
+pub all_taken : (rows : List StoredRow) (i : ℕ) → length rows ≤ i → take i rows ≡ rows
+all_taken [] zero h = refl
+all_taken [] (suc i) h = refl
+all_taken (r ∷ rows) zero h = absurd (omega arith)
+all_taken (r ∷ rows) (suc i) h = ap (λ l. r ∷ l) (all_taken rows i (omega arith))

@@ -100,3 +100,6 @@ given_up first before after last settled begun open_before keeps back live =
 pub commit_failed : (old new : State) (e : Error) → IsTrue old.in_transaction → FailsToCommit old new e → IsRolledBack old new
 commit_failed old new e inside (inl failed) = failed.3
 commit_failed old new e inside (inr outside) = absurd (true≢false (sym inside ∙ outside.1))
+
+pub within_here : (a : State) → RunsWithin {X = Unit {0}} a a (Ok tt)
+within_here a = record { clean = λ c. c; goes_on = λ c on. on; commit = λ c on. record { was_open = λ live. live; committed = λ live. refl } }

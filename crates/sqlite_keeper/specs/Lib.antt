@@ -1,3 +1,4 @@
 pub mod Schema
 pub mod Tables
 pub mod Changes
+pub mod Told

@@ -1,4 +1,7 @@
-use Rattle.std.proofs.Common.{Ok, sym, ap, ◌∙◌}
+use mir.Syntax.{w64}
+use mir.Val.{SFits}
+use Rattle.std.proofs.Common.{Ok, rules, ◌∙◌}
+use Rattle.std.proofs.lemmas.Int.{to_z-of_z}
 use Rattle.sqlite.specs.Held.{state}
 use Rattle.sqlite_keeper.proofs.Undone.{query_stays}
 use Rattle.sqlite_keeper.proofs.Within.{reads_within, within_ok, within_fails}
@@ -23,7 +26,8 @@ returns-clause-full g c = λ clean is.
     let old = state g.S.Store c.args.tx.now.conn.now in
     let new = state g.S.Store c.query_all.new.self.conn.now in
     let number = number_of_rows old new c.in_ok-rows.rows.items c.in_ok-count.count is (c.in_ok-rows.ensures.ok clean) (rw c.deref.ensures.value at c.in_ok-count.ensures) in
-    c.are_most.ensures _ number ∙ full_of_rows old.now is
+    let fits : SFits w64 c.in_ok-count.count = search rules in
+    c.are_most.ensures _ (to_z-of_z w64 c.in_ok-count.count fits ∙ number) ∙ full_of_rows old.now is
 
 pub returns-clause-stays : goal.returns-clause-stays
 returns-clause-stays g c = λ clean is.

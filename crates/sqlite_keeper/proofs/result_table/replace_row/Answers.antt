@@ -1,13 +1,13 @@
-use Rattle.std.proofs.Common.{rules, ◌≡◌, false, map, IfOk, OnOk, OnErr, IsTrue, ℕ, ◌+◌, ◌-◌, ◌*◌, ◌<◌, ◌≤◌, length, ◌/◌, ◌%◌, Bool, true, nat_eq, nat_lt, List, [], ◌∷◌, ◌++◌, slice_index_or, slice_set, bit_and, bit_or, Fits, w8, w32, w64, Bor, MutBor}
-use Rattle.std.specs.FinMap.{entries, contains_key, insert, remove}
-use Rattle.sqlite.specs.State.{HasCleanDisk}
 use Rattle.sqlite.specs.Held.{state}
-use Rattle.result_keeper.specs.Entries.{pair_of}
-use Rattle.result_keeper.specs.Kept.{contexts_in, put_rows}
-use Rattle.sqlite_keeper.specs.Tables.{IsStore, projects_in, results_in, shown_text, shown_pair}
-use Rattle.sqlite_keeper.specs.Changes.{HasTables, RunsWithin}
+use Rattle.sqlite_keeper.specs.Tables.{projects_in, results_in}
+use Rattle.sqlite_keeper.proofs.ResultRows.{replaced}
 use Rattle.sqlite_keeper.proofs.result_table.replace_row.Goals as goal
 
--- src/result_table.rt:147:1
 pub returns-clause-put : goal.returns-clause-put
-returns-clause-put g c = ?
+returns-clause-put g c = λ clean on is.
+    let old = state g.S.Store c.args.tx.now.conn.now in
+    let mid = state g.S.Store c.delete_row.new.tx.conn.now in
+    let new = state g.S.Store c.insert_row.new.tx.conn.now in
+    let before = c.insert_row.ensures.within.clean clean in
+    let still = c.in_ok-delete_row.ensures.within.goes_on before on in
+    replaced c.insert_row.result (projects_in old.now) (results_in old.now) mid.now new.now c.args.context.now c.args.tree.now c.args.value.now (c.in_ok-delete_row.ensures.removed before on is) (λ there free. c.insert_row.ensures.added clean still there free)
