@@ -7,7 +7,6 @@ mod ProjectRows
 mod Within
 mod Counting
 mod ResultRows
-mod Telling
 mod Finding
 mod Sorting
 mod Names

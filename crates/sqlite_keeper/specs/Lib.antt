@@ -1,4 +1,3 @@
 pub mod Schema
 pub mod Tables
 pub mod Changes
-pub mod Told
