@@ -2,3 +2,4 @@ pub mod Schema
 pub mod Tables
 pub mod Changes
 pub mod Told
+pub mod Steady

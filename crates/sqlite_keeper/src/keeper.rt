@@ -1,10 +1,13 @@
 // A keeper over a `sqlite` database.
-ghost use Rattle.std.specs.Prelude.{◌≡◌, None, IfOk, if◌then◌else◌};
+ghost use Rattle.std.specs.Prelude.{◌≡◌, IfOk, if◌then◌else◌};
+ghost use Rattle.sqlite.specs.Held.{state};
+ghost use Rattle.sqlite_keeper.specs.Told.{told_of};
 
 use crate::failure::{counted, uncounted};
 use crate::project_table::{find_file, keep_file, names_in_order, remove_file};
 use crate::result_table::{contexts_in_order, keep_rows, results_in_order};
 use crate::schema::make_tables;
+use crate::steady::Steady;
 use crate::version::{is_old, migrate};
 use result_keeper::{ContextPair, Keeper, KeeperError, ProjectName, Put, StoredRow};
 use sqlite::{Alter, Connection, Error};
@@ -52,10 +55,10 @@ impl<S: Alter + Drop> SqliteKeeper<S> {
     }
 }
 
-impl<S: Alter> Keeper for SqliteKeeper<S> {
+impl<S: Steady> Keeper for SqliteKeeper<S> {
     ghost version = { λ k. if k.is_old then 1 else 2 };
 
-    ghost told = { λ _. None };
+    ghost told = { λ k. told_of S.is_steady k.is_old (state S.Store k.conn).now };
 
     ghost faults = { λ k. k.faults };
 

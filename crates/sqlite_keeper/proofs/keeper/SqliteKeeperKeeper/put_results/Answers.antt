@@ -1,0 +1,8 @@
+use Rattle.std.proofs.Common.{rules, ◌≡◌, IfOk, if◌then◌else◌, ℕ, ◌+◌, ◌-◌, ◌*◌, ◌<◌, ◌≤◌, length, ◌/◌, ◌%◌, Bool, true, false, nat_eq, nat_lt, List, [], ◌∷◌, ◌++◌, slice_index_or, slice_set, bit_and, bit_or, Fits, w8, w32, w64, Bor, MutBor}
+use Rattle.sqlite.specs.Held.{state}
+use Rattle.sqlite_keeper.specs.Told.{told_of}
+use Rattle.sqlite_keeper.proofs.keeper.SqliteKeeperKeeper.put_results.Goals as goal
+
+-- src/keeper.rt:120:5
+pub returns-in-Ok-clause-put : goal.returns-in-Ok-clause-put
+returns-in-Ok-clause-put g c = ?
