@@ -15,7 +15,7 @@ use Rattle.sqlite.specs.Schema.{Schema}
 use Rattle.sqlite.specs.Effect.{Database}
 use Rattle.sqlite_schema.specs.contracts.schema.Schema.{the_row}
 use Rattle.result_keeper.specs.ProjectName.{is_project_name}
-use Rattle.result_keeper.specs.Kept.{bytes_cmp, row_cmp, Kept}
+use Rattle.result_keeper.specs.Kept.{bytes_cmp, row_cmp, Kept, Projects, Rows}
 use Rattle.result_keeper.specs.Told.{Becomes, Stays}
 use Rattle.sqlite_keeper.specs.Schema.{store_schema}
 use Rattle.sqlite_keeper.specs.Tables.{project_rows, result_rows, project_entry, result_entry, projects_in, results_in, IsProjectRow, IsResultRow, IsStore}
@@ -207,3 +207,6 @@ untold steady old a h = ap (λ o. cond (steady && (not o && is_store a)) (Some (
     never : (s : Bool) → cond (s && false) (Some (kept_in a)) None ≡ None
     never true = refl
     never false = refl
+
+pub kept_is : (projects : Projects) (rows : Rows) (db : Database) → HasTables projects rows db → kept_in db ≡ record { version = 2; projects = projects; rows = rows }
+kept_is projects rows db t = λ i. record { version = 2; projects = t.projects i; rows = t.rows i }

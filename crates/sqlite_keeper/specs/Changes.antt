@@ -1,7 +1,8 @@
 -- What the calls leave.
 --   HasTables kept held db == the database is a store with these projects and these rows of results
+--   IsStill old new == if either of the two databases is a store, they are the same
 --   RunsWithin old new result == of a call within a transaction: the transaction goes on where the call succeeds, and the last commit stays
-use Rattle.std.specs.Prelude.{◌≡◌, Result, IsTrue, OnOk}
+use Rattle.std.specs.Prelude.{◌≡◌, ◌⊎◌, Result, IsTrue, OnOk}
 use Rattle.sqlite.specs.declared.error.Error.{Error}
 use Rattle.sqlite.specs.Effect.{Database}
 use Rattle.sqlite.specs.State.{State, HasCleanDisk, KeepsCommit}
@@ -12,6 +13,9 @@ pub record HasTables (kept : Projects) (held : Rows) (db : Database) : Type 0 wh
   pub is : IsStore db
   pub projects : projects_in db ≡ kept
   pub rows : results_in db ≡ held
+
+abbrev pub IsStill : Database → Database → Type 0
+IsStill old new = IsStore old ⊎ IsStore new → new ≡ old
 
 pub record RunsWithin {X : Type 0} (old new : State) (result : Result X Error) : Type 0 where
   pub clean : HasCleanDisk new → HasCleanDisk old
