@@ -20,7 +20,7 @@ use Rattle.result_keeper.specs.Kept.{bytes_cmp, row_cmp}
 use Rattle.result_keeper.specs.Entries.{AreApart}
 use Rattle.sqlite_keeper.specs.Schema.{no_schema, project_table, result_table, store_table, store_schema}
 use Rattle.sqlite_keeper.specs.Tables.{project_rows, result_rows, project_entry, result_entry, projects_in, results_in, IsProjectRow, IsResultRow, IsStore}
-use Rattle.sqlite_keeper.specs.Changes.{HasTables}
+use Rattle.sqlite_keeper.specs.Changes.{HasTables, IsEmptyStore}
 use Rattle.sqlite_keeper.proofs.Statements.{numbered_store, insert_version_text, version_terms, insert_version_is, insert_version_plain}
 use Rattle.sqlite_keeper.proofs.Writing.{adds}
 use Rattle.sqlite_keeper.proofs.Undone.{went, same_value}
@@ -103,7 +103,7 @@ no_rows : (P : Row → Type 0) → All P []
 no_rows P = λ k d l. absurd (omega arith)
 
 -- the three tables, one after the other, are an empty store
-pub made_empty : (a b c d : Database) → Made no_schema project_table a b → Made one_table result_table b c → Made two_tables store_table c d → HasTables empty empty d
+pub made_empty : (a b c d : Database) → Made no_schema project_table a b → Made one_table result_table b c → Made two_tables store_table c d → IsEmptyStore d
 unfolding IsDistinct
 made_empty a b c d p r s =
     let projects : project_rows d ≡ [] = s.others.0 ∙ r.others.0 ∙ p.none in
@@ -118,9 +118,12 @@ made_empty a b c d p r s =
         names = subst (λ l. AreApart bytes_cmp (map project_entry l)) (sym projects) tt;
         keys = subst (λ l. AreApart row_cmp (map result_entry l)) (sym results) tt;
       };
-      projects = ap (λ l. from_entries (map project_entry l)) projects;
-      rows = ap (λ l. from_entries (map result_entry l)) results;
+      projects = projects;
+      results = results;
     }
+
+pub empty_tables : (db : Database) → IsEmptyStore db → HasTables empty empty db
+empty_tables db e = record { is = e.is; projects = ap (λ l. from_entries (map project_entry l)) e.projects; rows = ap (λ l. from_entries (map result_entry l)) e.results }
 
 -- what has the same projects and results is a store with the same tables
 pub same_tables : (a b : Database) → IsStore a → b.schema ≡ store_schema → project_rows b ≡ project_rows a → result_rows b ≡ result_rows a → HasTables (projects_in a) (results_in a) b
@@ -154,3 +157,9 @@ version_kept old new count is h =
     let done = subst (λ s. Does old.step_limit (mode_of old) [] (record old.now { schema = s }) text None command (Ok (w.tally, new.now))) is.schema w.changed in
     let it = adds old.step_limit (mode_of old).keys (mode_of old) [] numbered_store.name 4 numbered_store.columns numbered_store.key numbered_store.primary [] [] numbered_store.checks 2 (Values version_terms 3) db w.tally new.now done in
     same_tables old.now new.now is it.schema (it.others.0 not_four) (it.others.1.0 two_not_four)
+
+pub same_again : (a b c : Database) → b ≡ a → HasTables (projects_in b) (results_in b) c → HasTables (projects_in a) (results_in a) c
+same_again a b c same t = subst (λ d. HasTables (projects_in d) (results_in d) c) same t
+
+pub unchanged_tables : (a b : Database) → IsStore a → b ≡ a → HasTables (projects_in a) (results_in a) b
+unchanged_tables a b is same = subst (λ d. HasTables (projects_in a) (results_in a) d) (sym same) (record { is = is; projects = refl; rows = refl })

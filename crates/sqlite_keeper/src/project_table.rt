@@ -86,7 +86,7 @@ fn is_kept<S: Alter>(tx: &mut Transaction<'_, S>, name: &ProjectName) -> Result<
 }
 
 // The number in the first row.
-fn count_in(rows: &[Row]) -> Result<i64, Error>
+pub fn count_in(rows: &[Row]) -> Result<i64, Error>
     ensures { IfOk result (λ count. column (slice_index_or rows.now 0 []) 0 ≡ Int count) }
 {
     match rows.first() {
