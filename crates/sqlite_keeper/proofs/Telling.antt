@@ -210,3 +210,8 @@ untold steady old a h = ap (λ o. cond (steady && (not o && is_store a)) (Some (
 
 pub kept_is : (projects : Projects) (rows : Rows) (db : Database) → HasTables projects rows db → kept_in db ≡ record { version = 2; projects = projects; rows = rows }
 kept_is projects rows db t = λ i. record { version = 2; projects = t.projects i; rows = t.rows i }
+
+pub told_is : (steady old : Bool) (db : Database) (projects : Projects) (rows : Rows) → steady ≡ true → old ≡ false → HasTables projects rows db → told_of steady old db ≡ Some (record { version = 2; projects = projects; rows = rows })
+told_is steady old db projects rows s o t =
+    let tells : (steady && (not old && is_store db)) ≡ true = true_both steady _ s (true_both (not old) _ (ap not o) (is_a_store db t.is)) in
+    ap (λ b. cond b (Some (kept_in db)) None) tells ∙ ap (λ k. Some k) (kept_is projects rows db t)

@@ -4,7 +4,7 @@ use Rattle.std.proofs.lemmas.Bool.{cases_Bool}
 use Rattle.sqlite.specs.declared.error.Error.{Error}
 use Rattle.sqlite.specs.Order.{Row}
 use Rattle.sqlite.specs.Effect.{Database}
-use Rattle.sqlite.specs.State.{State, mode_of, ShowsRows, Executes, ExecutesIn, RunsCommand, FailsToQuery, FailsToShow, IsNotRun, IsUnchanged, IsRolledBack, Shown, shows_rows}
+use Rattle.sqlite.specs.State.{State, mode_of, text_of, ShowsRows, Executes, ExecutesIn, RunsCommand, FailsToQuery, FailsToShow, IsNotRun, IsUnchanged, IsRolledBack, Shown, shows_rows}
 use Rattle.sqlite.specs.Listing.{understood}
 use Rattle.sqlite.proofs.Callers.{IsPlain}
 use Rattle.sqlite_resolve.specs.declared.compiled.Compiled.{Compiled}
@@ -85,7 +85,8 @@ rows_schema limit mode task returning command db tally after h = ap (λ (p : Tal
 on_table : (limit : Option ℕ) (mode : Mode) (params : Row) (db : Database) (what : Returning) (command : Command) (tally : Tally) (after : Database) (t : Option Table)
     → AtPlace (λ table. OnRows (record { limit = limit; keys = mode.keys; schema = db.schema; table = table; params = params }) mode (Some what) command db.trees) t (Ok (tally, after)) → after.schema ≡ db.schema
 on_table limit mode params db what command tally after None h = absurd cc
-on_table limit mode params db what command tally after (Some table) h = rows_schema limit mode _ (Some what) command db.trees tally after h
+on_table limit mode params db what command tally after (Some table) h =
+    rows_schema limit mode (record { limit = limit; keys = mode.keys; schema = db.schema; table = table; params = params }) (Some what) command db.trees tally after h
 
 shown_keeps : (limit : Option ℕ) (mode : Mode) (params : Row) (db : Database) (text : List ℕ) (what : Returning) (command : Command) (tally : Tally) (after : Database) → Does limit mode params db text (Some what) command (Ok (tally, after)) → after.schema ≡ db.schema
 shown_keeps limit mode params db text what (Insert at from) tally after h = on_table limit mode params db what (Insert at from) tally after (slice_get db.schema.tables at) h
@@ -100,7 +101,7 @@ shown_schema sql params old new rows h = by_returning h.0 _ h.0.returning h.2
   where
     by_returning : (c : Compiled) (given : Row) (r : Option Returning) → ShowsRows old new sql c given rows r → new.now.schema ≡ old.now.schema
     by_returning c given None it = ap (λ (d : Database). d.schema) it.3.0.now_is
-    by_returning c given (Some what) it = shown_keeps old.step_limit (mode_of old) given old.now _ what c.command it.1.tally new.now it.1.changed
+    by_returning c given (Some what) it = shown_keeps old.step_limit (mode_of old) given old.now (text_of sql c) what c.command it.1.tally new.now it.1.changed
 
 -- where one of the two is a store, a query changed nothing
 pub query_still : (sql : List ℕ) (params : Row) (old new : State) (r : Result (Vec Row Global) Error) → IsPlain (understood store_schema sql)
