@@ -27,7 +27,7 @@ use Rattle.result_keeper.specs.Kept.{bytes_cmp, most_projects}
 use Rattle.result_keeper.proofs.Orders.{bytes_total}
 use Rattle.result_keeper.proofs.Maps.{len-from_entries}
 use Rattle.sqlite_keeper.specs.Schema.{store_schema}
-use Rattle.sqlite_keeper.specs.Tables.{project_rows, project_entry, projects_in, IsStore}
+use Rattle.sqlite_keeper.specs.Tables.{project_rows, result_rows, project_entry, projects_in, IsStore}
 
 abbrev pub count_projects_text : List ℕ
 count_projects_text = codes "SELECT COUNT(*) FROM project"
@@ -80,17 +80,17 @@ all_matches [] = refl
 all_matches (r ∷ rows) = ap suc (all_matches rows)
 
 -- the answer to a count is one row with the number of rows
-pub counted : (db : ℕ → List Row) (rows : List Row) → IsAnswer (count_query 0) (overlay db []) [] rows → rows ≡ (count (length (db 0)) ∷ []) ∷ []
-counted db rows a =
-    let all = flat_map (λ (r : Row). ([] ∷ r ∷ []) ∷ []) (db 0) in
+pub counted : (tree : ℕ) (db : ℕ → List Row) (rows : List Row) → overlay db [] tree ≡ db tree → IsAnswer (count_query tree) (overlay db []) [] rows → rows ≡ (count (length (db tree)) ∷ []) ∷ []
+counted tree db rows there a =
+    let all = flat_map (λ (r : Row). ([] ∷ r ∷ []) ∷ []) (overlay db [] tree) in
     let s : Summarizes as_one [] all a.staged = a.grouped in
     let order = s.grouping.0 in
     let one = one_summary order s.rows (subst (λ gs. AllZip (IsSummary as_one) gs s.rows) s.grouping.2 s.summaries) in
-    let width : length order ≡ length (db 0) = length_permutation all order s.grouping.1 ∙ all_matches (db 0) in
-    let row = count (length (db 0)) ∷ [] in
+    let width : length order ≡ length (db tree) = length_permutation all order s.grouping.1 ∙ all_matches (overlay db [] tree) ∙ ap length there in
+    let row = count (length (db tree)) ∷ [] in
     let staged : a.staged ≡ ([] ∷ row ∷ []) ∷ [] = s.having ∙ ap (λ rs. filter (λ (e : Env). true) (map (λ (r : Row). [] ∷ r ∷ []) rs)) (one ∙ ap (λ n. (count n ∷ []) ∷ []) width) in
     let o : Output = ([], row) in
-    let kept : a.kept ≡ o ∷ [] = a.distinct ∙ ap (map (output (count_query 0))) staged in
+    let kept : a.kept ≡ o ∷ [] = a.distinct ∙ ap (map (output (count_query tree))) staged in
     let ordered = one_permutation o a.ordered (subst (λ k. IsPermutation k a.ordered) kept a.same) in
     a.shown ∙ ap (map (λ (p : Output). p.1)) ordered
 
@@ -102,7 +102,7 @@ pub number_of_rows : (old new : State) (rows : List Row) (z : ℤ) → IsStore o
     → z ≡ pos (min (length (project_rows old.now)) 9223372036854775807)
 number_of_rows old new rows z is h first =
     let got = reads_as count_projects_text [] old new store_schema is.schema _ count_projects_is.0 count_projects_plain count_projects_is.1 rows h in
-    let found = counted old.now.trees rows (got.answer Null) in
+    let found = counted 0 old.now.trees rows refl (got.answer Null) in
     let number : Int z ≡ count (length (project_rows old.now)) = sym first ∙ ap (λ rs. column (slice_index_or rs 0 []) 0) found in
     cc
 
@@ -111,3 +111,22 @@ pub full_of_rows : (db : Database) → IsStore db → nat_le most_projects (min 
 full_of_rows db is =
     let all = project_rows db in
     past (length all) ∙ ap (nat_le most_projects) (sym (len-from_entries bytes_cmp bytes_total (map project_entry all) is.names ∙ length-map all project_entry))
+
+abbrev pub count_results_text : List ℕ
+count_results_text = codes "SELECT COUNT(*) FROM result"
+
+count_results_is : (command_of (understood store_schema count_results_text) ≡ Select (record { lets = []; body = count_query 2 }) (codes "COUNT(*)" ∷ [])) × (reads_listing store_schema count_results_text ≡ false)
+unfolding understood everything
+count_results_is = (refl, refl)
+
+pub count_results_plain : IsPlain (understood store_schema count_results_text)
+unfolding understood everything
+count_results_plain = (refl, refl)
+
+-- no results are counted where there are none
+pub none_counted : (old new : State) (rows : List Row) (z : ℤ) → IsStore old.now → result_rows old.now ≡ [] → Shown count_results_text [] old new rows → column (slice_index_or rows 0 []) 0 ≡ Int z → z ≡ pos 0
+none_counted old new rows z is none h first =
+    let got = reads_as count_results_text [] old new store_schema is.schema _ count_results_is.0 count_results_plain count_results_is.1 rows h in
+    let found = counted 2 old.now.trees rows refl (got.answer Null) in
+    let number : Int z ≡ Int (pos 0) = sym first ∙ ap (λ rs. column (slice_index_or rs 0 []) 0) found ∙ ap (λ (l : List Row). count (length l)) none in
+    cc

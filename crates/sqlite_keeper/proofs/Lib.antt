@@ -7,6 +7,8 @@ mod ProjectRows
 mod Within
 mod Counting
 mod ResultRows
+mod Making
+mod Telling
 mod Finding
 mod Sorting
 mod Names

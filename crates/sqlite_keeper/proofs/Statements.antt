@@ -184,3 +184,10 @@ move_results_is = refl
 pub move_results_plain : IsPlain (understood store_schema move_results_text)
 unfolding understood everything
 move_results_plain = (refl, refl)
+
+abbrev pub version_text : List ℕ
+version_text = codes "SELECT version FROM store"
+
+pub version_plain : IsPlain (understood store_schema version_text)
+unfolding understood everything
+version_plain = (refl, refl)

@@ -26,14 +26,7 @@ use Rattle.sqlite_value.specs.declared.keys.Order.{Order}
 use Rattle.sqlite_sql.specs.Term.{Term}
 use Rattle.sqlite.specs.declared.run.Mode.{Mode}
 use Rattle.sqlite_keeper.specs.Schema.{store_schema}
-
--- a part that gave a value did not stop on the way
-pub went : {B E R : Type 0} {b : B} {Stops : E → Type 0} → ((stop : E) × Stops stop × (Ok b ≡ Err stop)) ⊎ R → R
-went (inl stopped) = absurd (let e = stopped.2 in cc)
-went (inr on) = on
-
-pub same_value : {B E : Type 0} {a b : B} → ◌≡◌ {A = Result B E} (Ok a) (Ok b) → a ≡ b
-same_value e = cc
+use Rattle.sqlite_keeper.proofs.Undone.{went, same_value}
 
 either : (b : Bool) (x : Value) → cond b x x ≡ x
 either true x = refl

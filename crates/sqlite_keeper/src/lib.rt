@@ -10,8 +10,10 @@ mod keeper;
 mod project_table;
 mod result_table;
 mod schema;
+mod steady;
 #[cfg(test)]
 mod tests;
 mod version;
 
 pub use keeper::SqliteKeeper;
+pub use steady::Steady;

@@ -11,7 +11,7 @@ ghost use Rattle.result_keeper.specs.Entries.{file_bytes};
 ghost use Rattle.result_keeper.specs.ProjectName.{is_project_name};
 ghost use Rattle.result_keeper.specs.Kept.{names_in, most_projects, put_answer, put_file};
 ghost use Rattle.sqlite_keeper.specs.Tables.{IsStore, projects_in, results_in, shown_name};
-ghost use Rattle.sqlite_keeper.specs.Changes.{HasTables, RunsWithin};
+ghost use Rattle.sqlite_keeper.specs.Changes.{HasTables, IsStill, RunsWithin};
 
 use crate::autocommit::{execute, query};
 use result_keeper::{ProjectName, Put};
@@ -36,8 +36,8 @@ const MOST_PROJECTS: i64 = 10_000;
 fn rows_named<S: Alter>(conn: &mut Connection<S>, name: &ProjectName) -> Result<Vec<Row>, Error>
     ensures rows { HasCleanDisk (state S.Store conn.new) → IsStore (state S.Store conn.old).now
         → IfOk result (λ rows. option_map (λ r. bytes (column r 0)) (slice_get rows.items 0) ≡ get (projects_in (state S.Store conn.old).now) name.now) }
-    ensures stays { HasCleanDisk (state S.Store conn.new) → IsTrue (state S.Store conn.new).is_open → IsStore (state S.Store conn.old).now
-        → (state S.Store conn.new).now ≡ (state S.Store conn.old).now }
+    ensures stays { HasCleanDisk (state S.Store conn.new) → IsTrue (state S.Store conn.new).is_open
+        → IsStill (state S.Store conn.old).now (state S.Store conn.new).now }
 {
     query(conn, SELECT_FILE, &[ValueRef::Text(name.bytes())])
 }
@@ -58,8 +58,8 @@ pub fn find_file<S: Alter>(
 ) -> Result<Option<Vec<u8>>, Error>
     ensures file { HasCleanDisk (state S.Store conn.new) → IsStore (state S.Store conn.old).now
         → IfOk result (λ file. file_bytes file ≡ get (projects_in (state S.Store conn.old).now) name.now) }
-    ensures stays { HasCleanDisk (state S.Store conn.new) → IsTrue (state S.Store conn.new).is_open → IsStore (state S.Store conn.old).now
-        → (state S.Store conn.new).now ≡ (state S.Store conn.old).now }
+    ensures stays { HasCleanDisk (state S.Store conn.new) → IsTrue (state S.Store conn.new).is_open
+        → IsStill (state S.Store conn.old).now (state S.Store conn.new).now }
 {
     let rows = rows_named(conn, name)?;
     first_blob(&rows)
@@ -86,7 +86,7 @@ fn is_kept<S: Alter>(tx: &mut Transaction<'_, S>, name: &ProjectName) -> Result<
 }
 
 // The number in the first row.
-fn count_in(rows: &[Row]) -> Result<i64, Error>
+pub fn count_in(rows: &[Row]) -> Result<i64, Error>
     ensures { IfOk result (λ count. column (slice_index_or rows.now 0 []) 0 ≡ Int count) }
 {
     match rows.first() {
@@ -263,8 +263,8 @@ fn name_in(row: &Row) -> Result<Option<ProjectName>, Error>
 fn named_rows<S: Alter>(conn: &mut Connection<S>) -> Result<Vec<Row>, Error>
     ensures rows { HasCleanDisk (state S.Store conn.new) → IsStore (state S.Store conn.old).now
         → IfOk result (λ rows. filter_map shown_name rows.items ≡ names_in (projects_in (state S.Store conn.old).now)) }
-    ensures stays { HasCleanDisk (state S.Store conn.new) → IsTrue (state S.Store conn.new).is_open → IsStore (state S.Store conn.old).now
-        → (state S.Store conn.new).now ≡ (state S.Store conn.old).now }
+    ensures stays { HasCleanDisk (state S.Store conn.new) → IsTrue (state S.Store conn.new).is_open
+        → IsStill (state S.Store conn.old).now (state S.Store conn.new).now }
 {
     query(conn, SELECT_NAMES, &[])
 }
@@ -295,8 +295,8 @@ pub fn names_in_order<S: Alter>(
 ) -> Result<Vec<ProjectName>, Error>
     ensures names { HasCleanDisk (state S.Store conn.new) → IsStore (state S.Store conn.old).now
         → IfOk result (λ names. names.items ≡ names_in (projects_in (state S.Store conn.old).now)) }
-    ensures stays { HasCleanDisk (state S.Store conn.new) → IsTrue (state S.Store conn.new).is_open → IsStore (state S.Store conn.old).now
-        → (state S.Store conn.new).now ≡ (state S.Store conn.old).now }
+    ensures stays { HasCleanDisk (state S.Store conn.new) → IsTrue (state S.Store conn.new).is_open
+        → IsStill (state S.Store conn.old).now (state S.Store conn.new).now }
 {
     let rows = named_rows(conn)?;
     names_shown(alloc, &rows)

@@ -6,7 +6,7 @@ ghost use Rattle.sqlite.specs.Held.{state};
 ghost use Rattle.result_keeper.specs.Entries.{pair_of};
 ghost use Rattle.result_keeper.specs.Kept.{contexts_in, within, put_rows};
 ghost use Rattle.sqlite_keeper.specs.Tables.{IsStore, projects_in, results_in, shown_text, shown_pair};
-ghost use Rattle.sqlite_keeper.specs.Changes.{HasTables, RunsWithin};
+ghost use Rattle.sqlite_keeper.specs.Changes.{HasTables, IsStill, RunsWithin};
 
 use crate::autocommit::query;
 use result_keeper::StoredRow;
@@ -26,8 +26,8 @@ const INSERT_RESULT: &str = "INSERT INTO result(context, tree, value) VALUES (?1
 fn context_rows<S: Alter>(conn: &mut Connection<S>) -> Result<Vec<Row>, Error>
     ensures rows { HasCleanDisk (state S.Store conn.new) → IsStore (state S.Store conn.old).now
         → IfOk result (λ rows. map shown_text rows.items ≡ contexts_in (results_in (state S.Store conn.old).now)) }
-    ensures stays { HasCleanDisk (state S.Store conn.new) → IsTrue (state S.Store conn.new).is_open → IsStore (state S.Store conn.old).now
-        → (state S.Store conn.new).now ≡ (state S.Store conn.old).now }
+    ensures stays { HasCleanDisk (state S.Store conn.new) → IsTrue (state S.Store conn.new).is_open
+        → IsStill (state S.Store conn.old).now (state S.Store conn.new).now }
 {
     query(conn, SELECT_CONTEXTS, &[])
 }
@@ -55,8 +55,8 @@ pub fn contexts_in_order<S: Alter>(
 ) -> Result<Vec<Vec<u8>>, Error>
     ensures contexts { HasCleanDisk (state S.Store conn.new) → IsStore (state S.Store conn.old).now
         → IfOk result (λ contexts. map (λ c. c.items) contexts.items ≡ contexts_in (results_in (state S.Store conn.old).now)) }
-    ensures stays { HasCleanDisk (state S.Store conn.new) → IsTrue (state S.Store conn.new).is_open → IsStore (state S.Store conn.old).now
-        → (state S.Store conn.new).now ≡ (state S.Store conn.old).now }
+    ensures stays { HasCleanDisk (state S.Store conn.new) → IsTrue (state S.Store conn.new).is_open
+        → IsStill (state S.Store conn.old).now (state S.Store conn.new).now }
 {
     let rows = context_rows(conn)?;
     blobs_shown(alloc, &rows)
@@ -66,8 +66,8 @@ pub fn contexts_in_order<S: Alter>(
 fn rows_within<S: Alter>(conn: &mut Connection<S>, context: &[u8]) -> Result<Vec<Row>, Error>
     ensures rows { HasCleanDisk (state S.Store conn.new) → IsStore (state S.Store conn.old).now
         → IfOk result (λ rows. map shown_pair rows.items ≡ within context.now (entries (results_in (state S.Store conn.old).now))) }
-    ensures stays { HasCleanDisk (state S.Store conn.new) → IsTrue (state S.Store conn.new).is_open → IsStore (state S.Store conn.old).now
-        → (state S.Store conn.new).now ≡ (state S.Store conn.old).now }
+    ensures stays { HasCleanDisk (state S.Store conn.new) → IsTrue (state S.Store conn.new).is_open
+        → IsStill (state S.Store conn.old).now (state S.Store conn.new).now }
 {
     query(conn, SELECT_RESULTS, &[ValueRef::Blob(context)])
 }
@@ -98,8 +98,8 @@ pub fn results_in_order<S: Alter>(
 ) -> Result<Vec<StoredRow>, Error>
     ensures rows { HasCleanDisk (state S.Store conn.new) → IsStore (state S.Store conn.old).now
         → IfOk result (λ found. map pair_of found.items ≡ within context.now (entries (results_in (state S.Store conn.old).now))) }
-    ensures stays { HasCleanDisk (state S.Store conn.new) → IsTrue (state S.Store conn.new).is_open → IsStore (state S.Store conn.old).now
-        → (state S.Store conn.new).now ≡ (state S.Store conn.old).now }
+    ensures stays { HasCleanDisk (state S.Store conn.new) → IsTrue (state S.Store conn.new).is_open
+        → IsStill (state S.Store conn.old).now (state S.Store conn.new).now }
 {
     let rows = rows_within(conn, context)?;
     rows_shown(alloc, &rows)
