@@ -1,12 +1,11 @@
 -- What counting the rows of a table answers.
-use Rattle.std.proofs.Common.{◌≡◌, ◌≢◌, ℕ, suc, ℤ, ◌+◌, ◌≤◌, filter, min, pos, negsuc, nat_le, codes, List, [], ◌∷◌, ◌++◌, map, length, slice_index_or, Bool, true, false, Some, None, Option, Ok, Err, Result, refl, sym, ap, subst, ◌∙◌, arith, tests, IfOk, Vec, Global}
+use Rattle.std.proofs.Common.{◌≡◌, ℕ, suc, ℤ, filter, min, pos, negsuc, nat_le, codes, List, [], ◌∷◌, map, length, slice_index_or, true, false, Some, refl, sym, ap, subst, ◌∙◌, arith}
 use Rattle.std.specs.List.{AllZip, flat_map}
 use Rattle.std.specs.List.Sorted.{IsPermutation}
 use Rattle.std.specs.FinMap.{len}
 use Rattle.std.proofs.lemmas.Bool.Decides.{nat_tests}
 use Rattle.std.proofs.lemmas.List.{length-map}
 use Rattle.std.proofs.lemmas.List.Sorted.{length_permutation}
-use Rattle.sqlite.specs.declared.error.Error.{Error}
 use Rattle.sqlite.specs.declared.types.Value.{Value}
 use Rattle.sqlite.specs.declared.types.Value.TheVariants.{Int, Null}
 use Rattle.sqlite.specs.Collation.TheVariants.{Binary}

@@ -1,5 +1,5 @@
 -- What the statements that make the tables leave.
-use Rattle.std.proofs.Common.{◌≡◌, ◌≢◌, ℕ, codes, List, [], ◌∷◌, map, Bool, true, false, All, None, Ok, Err, Result, refl, sym, ap, subst, ◌∙◌, arith}
+use Rattle.std.proofs.Common.{◌≡◌, ◌≢◌, ℕ, codes, List, [], map, false, All, None, Ok, refl, sym, ap, subst, ◌∙◌, arith}
 use Rattle.std.specs.List.{IsDistinct}
 use Rattle.std.specs.FinMap.{empty, from_entries}
 use Rattle.sqlite.specs.Order.{Row}

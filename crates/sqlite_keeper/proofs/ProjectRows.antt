@@ -1,5 +1,5 @@
 -- What the statements on the table of projects make of it.
-use Rattle.std.proofs.Common.{◌≡◌, ◌≢◌, ◌&&◌, ◌||◌, not, inl, inr, ℕ, zero, suc, ◌<◌, nat_lt, get_or, codes, List, [], ◌∷◌, map, filter, length, Bool, true, false, cond, is_some, unwrap_or, Some, None, Option, Ok, Err, Result, refl, sym, ap, subst, subst₂, ◌∙◌, arith, All, IfOk, OnOk}
+use Rattle.std.proofs.Common.{◌≡◌, ◌≢◌, ◌&&◌, not, inl, inr, ℕ, zero, suc, ◌<◌, nat_lt, get_or, List, [], ◌∷◌, map, filter, length, Bool, true, false, cond, is_some, unwrap_or, Some, None, Option, Ok, Err, Result, refl, sym, ap, subst, subst₂, ◌∙◌, arith, All, OnOk}
 use Rattle.std.specs.Option.{option_to_list}
 use Rattle.std.specs.List.{AllByRecursion, IsDistinct, flat_map}
 use Rattle.std.specs.List.Sorted.{IsPermutation}
@@ -16,7 +16,7 @@ use Rattle.sqlite.specs.declared.types.Value.TheVariants.{Int, Text, Blob, Null}
 use Rattle.sqlite.specs.Order.{Row, column, bytes}
 use Rattle.sqlite.specs.Query.{IsAnswer, output, Output}
 use Rattle.sqlite.specs.Program.{overlay}
-use Rattle.sqlite.specs.Tree.{Trees, IsTable, put_row}
+use Rattle.sqlite.specs.Tree.{IsTable, put_row}
 use Rattle.sqlite.specs.Edit.{numbered, next_rowid, is_taken, are_fresh, put_all}
 use Rattle.sqlite.specs.Cast.{cast_row}
 use Rattle.sqlite.specs.Rowids.TheVariants.{Chosen}

@@ -1,6 +1,6 @@
 -- What the statements on the table of results make of it.
-use Rattle.std.proofs.Common.{◌≡◌, ◌≢◌, ◌&&◌, if◌then◌else◌, not, inl, inr, ℕ, zero, suc, ◌≤◌, length, take, ◌++◌, List, [], ◌∷◌, map, filter, Bool, true, false, is_some, Some, None, Ok, Err, Result, refl, sym, ap, subst, subst₂, ◌∙◌, arith, All, OnOk, Ordering, Less, Equal, Greater}
-use Rattle.std.specs.List.{AllByRecursion, IsDistinct, list_all, flat_map}
+use Rattle.std.proofs.Common.{◌≡◌, ◌≢◌, ◌&&◌, if◌then◌else◌, not, inl, inr, ℕ, zero, suc, ◌≤◌, length, take, ◌++◌, List, [], ◌∷◌, map, filter, Bool, true, false, is_some, None, Ok, Err, Result, refl, sym, ap, subst, subst₂, ◌∙◌, arith, All, OnOk, Ordering, Less, Equal, Greater}
+use Rattle.std.specs.List.{IsDistinct, list_all, flat_map}
 use Rattle.std.specs.List.Sorted.{IsPermutation}
 use Rattle.std.specs.Ordering.{eq_by_cmp, is_eq, ordering_then}
 use Rattle.std.specs.Cmp.{eq_by_cmp_equiv}
@@ -16,7 +16,7 @@ use Rattle.sqlite.specs.Order.{Row, column, bytes, value_cmp}
 use Rattle.sqlite.specs.Term.{Env, holds}
 use Rattle.sqlite.specs.Query.{IsAnswer, output, Output}
 use Rattle.sqlite.specs.Program.{overlay}
-use Rattle.sqlite.specs.Tree.{Trees, IsTable, put_row}
+use Rattle.sqlite.specs.Tree.{IsTable, put_row}
 use Rattle.sqlite.specs.Edit.{numbered, next_rowid, is_taken, are_fresh, put_all}
 use Rattle.sqlite.specs.Cast.{cast_row}
 use Rattle.sqlite.specs.Rowids.TheVariants.{Chosen}

@@ -1,8 +1,7 @@
 -- The tests of a store, and what a keeper tells by them.
-use Rattle.std.proofs.Common.{◌≡◌, ◌⊎◌, inl, inr, ◌&&◌, ◌==◌, not, ℕ, List, [], ◌∷◌, map, All, Bool, true, false, cond, Some, None, Option, Ok, Err, Result, IfSome, refl, sym, ap, subst, ◌∙◌, arith, Ordering, Less, Equal, Greater, is_lt}
+use Rattle.std.proofs.Common.{◌≡◌, ◌&&◌, ◌==◌, not, ℕ, List, [], ◌∷◌, map, Bool, true, false, cond, Some, None, IfSome, refl, sym, ap, subst, ◌∙◌, arith, Ordering, Less, Equal, Greater, is_lt}
 use Rattle.std.specs.List.{AllByRecursion, IsDistinct, list_all}
 use Rattle.std.specs.Ordering.{eq_by_cmp}
-use Rattle.std.proofs.lemmas.Bool.{cases_Bool}
 use Rattle.std.proofs.lemmas.Bool.Decides.{nat_tests}
 use base.Stored.{Gv, gnil, gnum, gcons}
 use Rattle.sqlite.specs.declared.types.Value.{Value}
@@ -18,11 +17,11 @@ use Rattle.result_keeper.specs.ProjectName.{is_project_name}
 use Rattle.result_keeper.specs.Kept.{bytes_cmp, row_cmp, Kept, Projects, Rows}
 use Rattle.result_keeper.specs.Told.{Becomes, Stays}
 use Rattle.sqlite_keeper.specs.Schema.{store_schema}
-use Rattle.sqlite_keeper.specs.Tables.{project_rows, result_rows, project_entry, result_entry, projects_in, results_in, IsProjectRow, IsResultRow, IsStore}
+use Rattle.sqlite_keeper.specs.Tables.{project_rows, result_rows, project_entry, IsProjectRow, IsResultRow, IsStore}
 use Rattle.sqlite_keeper.specs.Changes.{HasTables}
 use Rattle.sqlite_keeper.specs.Told.{same_code, has_schema, is_text, is_blob, ascends, is_project_row, is_result_row, is_store, kept_in, told_of}
 use Rattle.sqlite_keeper.proofs.Finding.{by_rows}
-use Rattle.sqlite_keeper.proofs.ProjectRows.{at_rows, weaken}
+use Rattle.sqlite_keeper.proofs.ProjectRows.{at_rows}
 
 both_true : (a b : Bool) → (a && b) ≡ true → (a ≡ true) × (b ≡ true)
 both_true true b h = (refl, h)

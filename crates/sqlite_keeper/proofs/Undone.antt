@@ -1,5 +1,5 @@
 -- What a statement leaves that fails.
-use Rattle.std.proofs.Common.{◌≡◌, ◌⊎◌, inl, inr, ℕ, List, Bool, true, false, None, Some, slice_get, Option, Ok, Err, Result, IsTrue, OnErr, IfErr, IfOk, sym, subst, ap, ◌∙◌, Vec, Global}
+use Rattle.std.proofs.Common.{◌≡◌, ◌⊎◌, inl, inr, ℕ, List, false, None, Some, slice_get, Option, Ok, Err, Result, IsTrue, OnErr, IfErr, IfOk, sym, subst, ap, ◌∙◌, Vec, Global}
 use Rattle.std.proofs.lemmas.Bool.{cases_Bool}
 use Rattle.sqlite.specs.declared.error.Error.{Error}
 use Rattle.sqlite.specs.Order.{Row}

@@ -1,11 +1,10 @@
 -- Calls within a transaction, and how it ends.
-use Rattle.std.proofs.Common.{◌≡◌, ◌⊎◌, inl, inr, ℕ, List, Bool, true, false, true≢false, Ok, Err, Result, IsTrue, OnOk, OnErr, IfOk, IfErr, IsErr, refl, sym, ap, subst, ◌∙◌, arith, Vec, Global}
+use Rattle.std.proofs.Common.{◌≡◌, ◌⊎◌, inl, inr, ℕ, List, true, false, true≢false, Ok, Err, Result, IsTrue, OnOk, IfOk, IfErr, IsErr, refl, sym, subst, ◌∙◌, arith, Vec, Global}
 use Rattle.sqlite.specs.declared.error.Error.{Error}
 use Rattle.sqlite.specs.Order.{Row}
 use Rattle.sqlite.specs.Tree.{Trees}
-use Rattle.sqlite.specs.Effect.{Database}
 use Rattle.sqlite.specs.Listing.{understood}
-use Rattle.sqlite.specs.State.{State, HasCleanDisk, KeepsCommit, IsUnchanged, IsRolledBack, Survives, Shows, Shown, Executes, ExecutesInside, FailsToQuery, IsTooLate}
+use Rattle.sqlite.specs.State.{State, HasCleanDisk, KeepsCommit, IsUnchanged, IsRolledBack, Survives, Shown, Executes, ExecutesInside, FailsToQuery, IsTooLate}
 use Rattle.sqlite.specs.Steps.{FailsToCommit}
 use Rattle.sqlite.proofs.Callers.{IsPlain}
 use Rattle.sqlite_keeper.specs.Schema.{store_schema}

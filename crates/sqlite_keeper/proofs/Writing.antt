@@ -1,5 +1,5 @@
 -- What DELETE and INSERT make of the rows of a table.
-use Rattle.std.proofs.Common.{◌≡◌, ◌≢◌, ◌⊎◌, inl, inr, ℕ, List, [], ◌∷◌, map, length, true, false, cond, Some, None, Option, Ok, Err, Result, refl, sym, ap, subst, ◌∙◌, Bool}
+use Rattle.std.proofs.Common.{◌≡◌, ◌≢◌, ℕ, List, [], map, length, true, false, cond, Some, None, Option, Ok, refl, sym, ap, subst, ◌∙◌, Bool}
 use Rattle.std.specs.List.{AllByRecursion}
 use Rattle.std.proofs.lemmas.List.{length-map}
 use Rattle.sqlite.specs.declared.types.Value.{Value}
@@ -9,7 +9,7 @@ use Rattle.sqlite.specs.Kind.TheVariants.{Integer}
 use Rattle.sqlite.specs.Ops.{unary}
 use Rattle.sqlite.specs.Cast.{cast, cast_row}
 use Rattle.sqlite.specs.Tree.{Trees}
-use Rattle.sqlite.specs.Edit.{Edit, edit_of, edited, numbered, put_all, without_all, are_fresh, taken_by}
+use Rattle.sqlite.specs.Edit.{Edit, edit_of, numbered, put_all, without_all, are_fresh, taken_by}
 use Rattle.sqlite.specs.Rowids.TheVariants.{Chosen, Given}
 use Rattle.sqlite.specs.Effect.{Database, Answers, IsSource}
 use Rattle.sqlite.specs.Does.{Tally, OnRows}

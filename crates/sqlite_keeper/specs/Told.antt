@@ -7,7 +7,7 @@
 --   is_project_row r, is_result_row r, is_store db == tests for IsProjectRow, IsResultRow and IsStore
 --   kept_in db == the tables of version 2 with the projects and the rows of results of the database
 --   told_of is_steady is_old db == these, over a store that is clean and open at all times, where the database is a store of version 2
-use Rattle.std.specs.Prelude.{ℕ, Bool, true, false, not, ◌&&◌, ◌==◌, List, [], ◌∷◌, map, Option, Some, None, if◌then◌else◌}
+use Rattle.std.specs.Prelude.{Bool, true, false, not, ◌&&◌, ◌==◌, List, [], ◌∷◌, map, Option, Some, None, if◌then◌else◌}
 use Rattle.std.specs.List.{list_all}
 use Rattle.std.specs.Ordering.{is_lt, eq_by_cmp}
 use base.Stored.{Gv, gnil, gnum, gcons}

@@ -1,4 +1,4 @@
-use Rattle.std.proofs.Common.{◌≡◌, true, sym, ap, subst, ◌∙◌}
+use Rattle.std.proofs.Common.{◌≡◌, true, sym, ap, ◌∙◌}
 use Rattle.sqlite.specs.Held.{state}
 use Rattle.result_keeper.specs.ProjectName.{is_project_name}
 use Rattle.sqlite_keeper.proofs.ProjectRows.{insert_within}

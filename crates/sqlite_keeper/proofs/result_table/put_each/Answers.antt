@@ -1,4 +1,4 @@
-use Rattle.std.proofs.Common.{◌≡◌, ℕ, ◌+◌, ◌++◌, [], ◌∷◌, Ok, refl, sym, ap, subst, ◌∙◌, arith, map, take}
+use Rattle.std.proofs.Common.{◌+◌, ◌++◌, [], ◌∷◌, Ok, refl, sym, ap, subst, ◌∙◌, arith, map, take}
 use Rattle.std.proofs.lemmas.List.{take_more}
 use Rattle.sqlite.specs.Held.{state}
 use Rattle.result_keeper.specs.Entries.{pair_of}

@@ -1,4 +1,4 @@
-use Rattle.std.proofs.Common.{◌≡◌, ℕ, Ok, IsTrue, map, take}
+use Rattle.std.proofs.Common.{◌≡◌, Ok, IsTrue, map, take}
 use Rattle.sqlite.specs.State.{HasCleanDisk}
 use Rattle.sqlite.specs.Held.{state}
 use Rattle.result_keeper.specs.Entries.{pair_of}

@@ -1,7 +1,6 @@
-use Rattle.std.proofs.Common.{inl, inr, subst, sym, ap, ◌∙◌, ◌≡◌, map}
+use Rattle.std.proofs.Common.{inl, inr, subst, sym, ◌≡◌}
 use Rattle.sqlite.specs.Held.{state}
-use Rattle.result_keeper.specs.Kept.{Kept, names_of, contexts_of, results_of}
-use Rattle.result_keeper.specs.Entries.{file_bytes, pair_of}
+use Rattle.result_keeper.specs.Entries.{file_bytes}
 use Rattle.std.specs.FinMap.{get}
 use Rattle.sqlite_keeper.specs.Tables.{IsStore}
 use Rattle.sqlite_keeper.specs.Told.{kept_in}

@@ -1,8 +1,8 @@
-use Rattle.std.proofs.Common.{inl, inr, subst, sym, ap, ◌∙◌, ◌≡◌, map}
+use Rattle.std.proofs.Common.{map}
 use Rattle.sqlite.specs.Held.{state}
-use Rattle.result_keeper.specs.Kept.{after_put, without_project, with_rows}
+use Rattle.result_keeper.specs.Kept.{with_rows}
 use Rattle.result_keeper.specs.Entries.{pair_of}
-use Rattle.sqlite_keeper.proofs.Telling.{told_answer, told_becomes, told_stays, kept_is}
+use Rattle.sqlite_keeper.proofs.Telling.{told_becomes, kept_is}
 use Rattle.sqlite_keeper.proofs.keeper.SqliteKeeperKeeper.put_results.Goals as goal
 
 pub returns-in-Ok-clause-put : goal.returns-in-Ok-clause-put

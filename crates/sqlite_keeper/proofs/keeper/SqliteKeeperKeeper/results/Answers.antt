@@ -1,8 +1,7 @@
-use Rattle.std.proofs.Common.{inl, inr, subst, sym, ap, ◌∙◌, ◌≡◌, map}
+use Rattle.std.proofs.Common.{inl, inr, subst, sym, ◌≡◌, map}
 use Rattle.sqlite.specs.Held.{state}
-use Rattle.result_keeper.specs.Kept.{Kept, names_of, contexts_of, results_of}
-use Rattle.result_keeper.specs.Entries.{file_bytes, pair_of}
-use Rattle.std.specs.FinMap.{get}
+use Rattle.result_keeper.specs.Kept.{results_of}
+use Rattle.result_keeper.specs.Entries.{pair_of}
 use Rattle.sqlite_keeper.specs.Tables.{IsStore}
 use Rattle.sqlite_keeper.specs.Told.{kept_in}
 use Rattle.sqlite_keeper.proofs.Telling.{told_answer, told_stays}
