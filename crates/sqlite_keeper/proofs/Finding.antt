@@ -1,12 +1,12 @@
 -- What the look-up of a file answers.
-use Rattle.std.proofs.Common.{◌≡◌, inl, inr, if◌then◌else◌, ℕ, suc, List, [], ◌∷◌, map, filter, slice_get, Bool, true, false, cond, Some, None, Option, Ok, Err, Result, refl, sym, ap, subst, subst₂, ◌∙◌, IfOk, Vec, Global, arith, All}
+use Rattle.std.proofs.Common.{◌≡◌, inl, inr, if◌then◌else◌, ℕ, suc, List, [], ◌∷◌, map, filter, slice_get, Bool, true, false, cond, is_some, Some, None, Option, Ok, Err, Result, refl, sym, ap, subst, subst₂, ◌∙◌, IfOk, Vec, Global, arith, All}
 use Rattle.std.specs.Option.{option_to_list, option_map}
 use Rattle.std.specs.List.{flat_map, list_all, AllByRecursion, IsDistinct}
 use Rattle.std.specs.List.Sorted.{IsPermutation}
 use Rattle.std.specs.Ordering.{is_eq, eq_by_cmp}
 use Rattle.std.specs.Cmp.{eq_by_cmp_equiv, Equal-is}
 use Rattle.std.proofs.lemmas.Simd.{map-map}
-use Rattle.std.specs.FinMap.{get, find, get-from_entries}
+use Rattle.std.specs.FinMap.{get, find, get-from_entries, contains_key}
 use Rattle.std.proofs.lemmas.Bool.{cases_Bool}
 use Rattle.std.proofs.lemmas.List.Sorted.{IsPermutation-map, length_permutation}
 use Rattle.sqlite_value.proofs.OrderLemmas.{value_cmp-Text}
@@ -26,13 +26,13 @@ use Rattle.sqlite_keeper.specs.Tables.{project_rows, project_entry, projects_in,
 use Rattle.sqlite_keeper.proofs.Statements.{file_text, file_query, by_parameter, file_is, file_plain}
 use Rattle.sqlite_keeper.proofs.Queries.{text_test}
 
-abbrev is_named : List ℕ → Row → Bool
+abbrev pub is_named : List ℕ → Row → Bool
 is_named name r = is_eq (value_cmp (column r 1) (Text name))
 
 abbrev files_named : List ℕ → List Row → List Row
 files_named name rows = map (λ r. column r 2 ∷ []) (filter (is_named name) rows)
 
-abbrev step : List ℕ → Row → List Env
+abbrev pub step : List ℕ → Row → List Env
 step name r = if list_all (holds ((Text name ∷ []) ∷ r ∷ [])) by_parameter then ((Text name ∷ []) ∷ r ∷ []) ∷ [] else []
 
 shows_is : (name : List ℕ) (rows : List Row) → map (λ (o : Output). o.1) (map (output file_query) (flat_map (step name) rows)) ≡ files_named name rows
@@ -55,7 +55,7 @@ by_rows P [] h = tt
 by_rows P (r ∷ rows) h = (h 0 r (omega arith), by_rows P rows (λ k d l. h (suc k) d (omega arith)))
 
 -- the test of the row is that of the entry
-named_entry : (name : List ℕ) (r : Row) → IsProjectRow r → is_named name r ≡ eq_by_cmp bytes_cmp name (project_entry r).0
+pub named_entry : (name : List ℕ) (r : Row) → IsProjectRow r → is_named name r ≡ eq_by_cmp bytes_cmp name (project_entry r).0
 named_entry name r is =
     ap (λ v. is_eq (value_cmp v (Text name))) is.name
     ∙ ap is_eq (value_cmp-Text (bytes (column r 1)) name)
@@ -70,7 +70,7 @@ others_not name r (s ∷ rows) all own apart =
     rw other (others_not name r rows all.1 own apart.1)
 
 -- at most one row has the name
-named_one : (name : List ℕ) (rows : List Row) → AllByRecursion IsProjectRow rows → AreApart bytes_cmp (map project_entry rows)
+pub named_one : (name : List ℕ) (rows : List Row) → AllByRecursion IsProjectRow rows → AreApart bytes_cmp (map project_entry rows)
     → map (λ r. bytes (column r 2)) (filter (is_named name) rows) ≡ option_to_list (find bytes_cmp name (map project_entry rows))
 unfolding IsDistinct
 named_one name [] all apart = refl
@@ -107,3 +107,11 @@ pub file_of_if : (old new : State) (name : List ℕ) (result : Result (Vec Row G
     → IfOk result (λ rows. option_map (λ r. bytes (column r 0)) (slice_get rows.items 0) ≡ get (projects_in old.now) name)
 file_of_if old new name (Err e) is h = tt
 file_of_if old new name (Ok rows) is h = file_of old new name rows.items is h
+
+-- whether a row is found tells whether the project is kept
+pub kept_of : (old new : State) (name : List ℕ) (rows : List Row) → IsStore old.now → Shown file_text (Text name ∷ []) old new rows → is_some (slice_get rows 0) ≡ contains_key (projects_in old.now) name
+kept_of old new name rows is h = some_map rows ∙ ap is_some (file_of old new name rows is h)
+  where
+    some_map : (xs : List Row) → is_some (slice_get xs 0) ≡ is_some (option_map (λ r. bytes (column r 0)) (slice_get xs 0))
+    some_map [] = refl
+    some_map (x ∷ xs) = refl

@@ -1,5 +1,14 @@
 mod Statements
 mod Queries
+mod Undone
+mod Writing
+mod Removing
+mod ProjectRows
+mod Within
+mod Counting
+mod ResultRows
+mod Making
+mod Telling
 mod Finding
 mod Sorting
 mod Names

@@ -1,9 +1,11 @@
 -- What the statements that read compile to.
 use Rattle.std.proofs.Common.{◌≡◌, ℕ, pos, negsuc, List, [], ◌∷◌, codes, Bool, true, false, None, refl}
-use Rattle.sqlite.specs.Command.TheVariants.{Select}
+use Rattle.sqlite.specs.Command.TheVariants.{Select, Insert, Update, Delete}
+use Rattle.sqlite.specs.Source.TheVariants.{Values}
+use Rattle.sqlite.specs.Table.{Table}
 use Rattle.sqlite.specs.Query.{Query, inner, end}
 use Rattle.sqlite.specs.Term.{Term, lit, col, op2}
-use Rattle.sqlite.specs.declared.types.Value.TheVariants.{Int}
+use Rattle.sqlite.specs.declared.types.Value.TheVariants.{Int, Null}
 use Rattle.sqlite.specs.Collation.{Collation}
 use Rattle.sqlite.specs.Collation.TheVariants.{Binary}
 use Rattle.sqlite_value.specs.declared.keys.Key.{Key}
@@ -13,7 +15,7 @@ use Rattle.sqlite_sql.specs.declared.ops.CompareOp.TheVariants.{Eq}
 use Rattle.sqlite_tied.specs.Compute.{everything}
 use Rattle.sqlite.specs.Listing.{understood, reads_listing}
 use Rattle.sqlite.proofs.Callers.{IsPlain, command_of}
-use Rattle.sqlite_keeper.specs.Schema.{store_schema}
+use Rattle.sqlite_keeper.specs.Schema.{store_schema, result_table, store_table}
 
 abbrev pub file_text : List ℕ
 file_text = codes "SELECT file FROM project WHERE name = ?1"
@@ -87,3 +89,105 @@ results_is = (refl, refl)
 pub results_plain : IsPlain (understood store_schema results_text)
 unfolding understood everything
 results_plain = (refl, refl)
+
+-- the tables as they stand in the schema, with the numbers of their trees
+abbrev pub numbered_result : Table
+numbered_result = record result_table { tree = 2 }
+
+abbrev pub numbered_store : Table
+numbered_store = record store_table { tree = 4 }
+
+abbrev pub delete_project_text : List ℕ
+delete_project_text = codes "DELETE FROM project WHERE name = ?1"
+
+abbrev pub insert_project_text : List ℕ
+insert_project_text = codes "INSERT INTO project(name, file) VALUES (?1, ?2)"
+
+abbrev pub delete_result_text : List ℕ
+delete_result_text = codes "DELETE FROM result WHERE context = ?1 AND tree = ?2"
+
+abbrev pub insert_result_text : List ℕ
+insert_result_text = codes "INSERT INTO result(context, tree, value) VALUES (?1, ?2, ?3)"
+
+abbrev pub insert_version_text : List ℕ
+insert_version_text = codes "INSERT INTO store(one, version) VALUES (1, 2)"
+
+abbrev pub move_results_text : List ℕ
+move_results_text = codes "UPDATE result SET context = ?2 WHERE context = ?1"
+
+-- the first two columns are the parameters
+abbrev pub by_two_parameters : List Term
+by_two_parameters = op2 (Compare Eq Binary) (col 1 1) (col 0 0) ∷ op2 (Compare Eq Binary) (col 1 2) (col 0 1) ∷ []
+
+abbrev pub delete_project_query : Query
+delete_project_query = query 0 by_parameter (col 1 0 ∷ []) false [] []
+
+abbrev pub delete_result_query : Query
+delete_result_query = query 2 by_two_parameters (col 1 0 ∷ []) false [] []
+
+abbrev pub move_results_query : Query
+move_results_query = query 2 by_parameter (col 1 0 ∷ col 1 0 ∷ col 0 1 ∷ col 1 2 ∷ col 1 3 ∷ []) false [] []
+
+abbrev pub project_terms : List Term
+project_terms = lit Null ∷ col 0 0 ∷ col 0 1 ∷ []
+
+abbrev pub result_terms : List Term
+result_terms = lit Null ∷ col 0 0 ∷ col 0 1 ∷ col 0 2 ∷ []
+
+abbrev pub version_terms : List Term
+version_terms = lit (Int (pos 1)) ∷ lit Null ∷ lit (Int (pos 2)) ∷ []
+
+pub delete_project_is : command_of (understood store_schema delete_project_text) ≡ Delete 0 (record { lets = []; body = delete_project_query })
+unfolding understood everything
+delete_project_is = refl
+
+pub delete_project_plain : IsPlain (understood store_schema delete_project_text)
+unfolding understood everything
+delete_project_plain = (refl, refl)
+
+pub insert_project_is : command_of (understood store_schema insert_project_text) ≡ Insert 0 (Values project_terms 3)
+unfolding understood everything
+insert_project_is = refl
+
+pub insert_project_plain : IsPlain (understood store_schema insert_project_text)
+unfolding understood everything
+insert_project_plain = (refl, refl)
+
+pub delete_result_is : command_of (understood store_schema delete_result_text) ≡ Delete 1 (record { lets = []; body = delete_result_query })
+unfolding understood everything
+delete_result_is = refl
+
+pub delete_result_plain : IsPlain (understood store_schema delete_result_text)
+unfolding understood everything
+delete_result_plain = (refl, refl)
+
+pub insert_result_is : command_of (understood store_schema insert_result_text) ≡ Insert 1 (Values result_terms 4)
+unfolding understood everything
+insert_result_is = refl
+
+pub insert_result_plain : IsPlain (understood store_schema insert_result_text)
+unfolding understood everything
+insert_result_plain = (refl, refl)
+
+pub insert_version_is : command_of (understood store_schema insert_version_text) ≡ Insert 2 (Values version_terms 3)
+unfolding understood everything
+insert_version_is = refl
+
+pub insert_version_plain : IsPlain (understood store_schema insert_version_text)
+unfolding understood everything
+insert_version_plain = (refl, refl)
+
+pub move_results_is : command_of (understood store_schema move_results_text) ≡ Update 1 (record { lets = []; body = move_results_query })
+unfolding understood everything
+move_results_is = refl
+
+pub move_results_plain : IsPlain (understood store_schema move_results_text)
+unfolding understood everything
+move_results_plain = (refl, refl)
+
+abbrev pub version_text : List ℕ
+version_text = codes "SELECT version FROM store"
+
+pub version_plain : IsPlain (understood store_schema version_text)
+unfolding understood everything
+version_plain = (refl, refl)

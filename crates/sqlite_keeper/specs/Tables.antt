@@ -2,19 +2,22 @@
 --   project_rows db, result_rows db == the rows of the two tables; a row is its number, then its columns
 --   project_entry r == the name and the file in a row of `project`
 --   result_entry r == the context and the tree in a row of `result`, and its value
---   IsProjectRow r == the name of the row is a text and the name of a project, its file is a blob
---   IsResultRow r == context, tree and value of the row are blobs
+--   IsProjectRow r == the number of the row is an integer, its name is a text and the name of a project, its file is a blob
+--   IsResultRow r == the number of the row is an integer; its context, tree and value are blobs
 --   named v == the text of the value, where it is the name of a project
 --   shown_name r == the name that the row of an answer shows, where it is the name of a project
 --   shown_text r, shown_pair r == the bytes of the first column that the row of an answer shows, and of the first two
 --   projects_in db, results_in db == the finite maps that the rows make
---   IsStore db == the database has the tables of the store, its rows are such rows, no name comes twice, and no pair of a context and a tree
+--   IsStore db == the database has the tables of the store, its rows are such rows in the order of their numbers, no name comes twice,
+--     and no pair of a context and a tree
 use Rattle.std.specs.Prelude.{◌≡◌, ℕ, true, List, map, All, Option, Some, None, if◌then◌else◌}
 use Rattle.std.specs.FinMap.{from_entries}
 use Rattle.sqlite.specs.Order.{Row, column, bytes}
 use Rattle.sqlite.specs.declared.types.Value.{Value}
-use Rattle.sqlite.specs.declared.types.Value.TheVariants.{Text, Blob}
+use Rattle.sqlite.specs.declared.types.Value.TheVariants.{Int, Text, Blob}
 use Rattle.sqlite.specs.Effect.{Database}
+use Rattle.sqlite.specs.Edit.{id_in}
+use Rattle.sqlite.specs.Tree.{IsTable, rowid}
 use Rattle.result_keeper.specs.ProjectName.{is_project_name}
 use Rattle.result_keeper.specs.Kept.{bytes_cmp, row_cmp, Projects, Rows}
 use Rattle.result_keeper.specs.Entries.{AreApart}
@@ -46,11 +49,13 @@ abbrev pub shown_pair : Row → List ℕ × List ℕ
 shown_pair r = (bytes (column r 0), bytes (column r 1))
 
 pub record IsProjectRow (r : Row) : Type 0 where
+  pub number : rowid r ≡ Int (id_in (rowid r))
   pub name : column r 1 ≡ Text (bytes (column r 1))
   pub named : is_project_name (bytes (column r 1)) ≡ true
   pub file : column r 2 ≡ Blob (bytes (column r 2))
 
 pub record IsResultRow (r : Row) : Type 0 where
+  pub number : rowid r ≡ Int (id_in (rowid r))
   pub context : column r 1 ≡ Blob (bytes (column r 1))
   pub tree : column r 2 ≡ Blob (bytes (column r 2))
   pub value : column r 3 ≡ Blob (bytes (column r 3))
@@ -65,5 +70,7 @@ pub record IsStore (db : Database) : Type 0 where
   pub schema : db.schema ≡ store_schema
   pub projects : All IsProjectRow (project_rows db)
   pub results : All IsResultRow (result_rows db)
+  pub projects_ordered : IsTable (project_rows db)
+  pub results_ordered : IsTable (result_rows db)
   pub names : AreApart bytes_cmp (map project_entry (project_rows db))
   pub keys : AreApart row_cmp (map result_entry (result_rows db))

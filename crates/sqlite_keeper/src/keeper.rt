@@ -1,10 +1,18 @@
 // A keeper over a `sqlite` database.
-ghost use Rattle.std.specs.Prelude.{◌≡◌, None, IfOk, if◌then◌else◌};
+ghost use Rattle.std.specs.Prelude.{◌≡◌, true, false, Some, IfOk, OnOk, if◌then◌else◌};
+ghost use Rattle.std.specs.FinMap.{empty};
+ghost use Rattle.sqlite.specs.Held.{state};
+ghost use Rattle.sqlite_keeper.specs.Told.{told_of, kept_in};
+ghost use Rattle.result_keeper.specs.Kept.{nothing_kept};
+ghost use Rattle.sqlite_keeper.specs.Schema.{no_schema};
+ghost use Rattle.sqlite_keeper.specs.Tables.{IsStore, projects_in, results_in};
+ghost use Rattle.sqlite_keeper.specs.Changes.{HasTables};
 
 use crate::failure::{counted, uncounted};
-use crate::project_table::{find_file, names_in_order, put_file, remove_file};
-use crate::result_table::{contexts_in_order, put_rows, results_in_order};
+use crate::project_table::{find_file, keep_file, names_in_order, remove_file};
+use crate::result_table::{contexts_in_order, keep_rows, results_in_order};
 use crate::schema::make_tables;
+use crate::steady::Steady;
 use crate::version::{is_old, migrate};
 use result_keeper::{ContextPair, Keeper, KeeperError, ProjectName, Put, StoredRow};
 use sqlite::{Alter, Connection, Error};
@@ -19,16 +27,28 @@ pub struct SqliteKeeper<S: Alter> {
 }
 
 // Makes the tables that are not there, and says whether the store is of version 1.
-fn prepare<S: Alter>(conn: &mut Connection<S>) -> Result<bool, Error> {
+fn prepare<S: Steady>(conn: &mut Connection<S>) -> Result<bool, Error>
+    ensures made { S.is_steady ≡ true → (state S.Store conn.old).now.schema ≡ no_schema
+        → IfOk result (λ is_old. (is_old ≡ false) × HasTables empty empty (state S.Store conn.new).now) }
+    ensures there { S.is_steady ≡ true → IsStore (state S.Store conn.old).now
+        → OnOk result (HasTables (projects_in (state S.Store conn.old).now) (results_in (state S.Store conn.old).now) (state S.Store conn.new).now) }
+{
     make_tables(conn)?;
     is_old(conn)
 }
 
-impl<S: Alter + Drop> SqliteKeeper<S> {
+impl<S: Steady + Drop> SqliteKeeper<S> {
     /// Makes the tables where they are not there. The version is 1 exactly where there are results and none is kept. Fails only
     /// where the database refuses a statement: as `Memory` for want of memory, else as `Failed`.
+    ///
+    /// Over a store that is clean and open at all times an empty database is told as tables of version 2 with nothing in them,
+    /// and one with tables as these are, and rows as a keeper makes them, as what its rows say, where its version is 2.
     pub fn new(_alloc: Global, connection: Connection<S>) -> Result<SqliteKeeper<S>, KeeperError>
-        ensures { IfOk result (λ k. k.faults ≡ 0) }
+        ensures faults { IfOk result (λ k. k.faults ≡ 0) }
+        ensures empty { S.is_steady ≡ true → (state S.Store connection).now.schema ≡ no_schema
+            → IfOk result (λ k. told_of S.is_steady k.is_old (state S.Store k.conn).now ≡ Some nothing_kept) }
+        ensures kept { S.is_steady ≡ true → IsStore (state S.Store connection).now
+            → IfOk result (λ k. k.is_old ≡ false → told_of S.is_steady k.is_old (state S.Store k.conn).now ≡ Some (kept_in (state S.Store connection).now)) }
     {
         let mut conn = connection;
         match prepare(&mut conn) {
@@ -52,10 +72,10 @@ impl<S: Alter + Drop> SqliteKeeper<S> {
     }
 }
 
-impl<S: Alter> Keeper for SqliteKeeper<S> {
+impl<S: Steady> Keeper for SqliteKeeper<S> {
     ghost version = { λ k. if k.is_old then 1 else 2 };
 
-    ghost told = { λ _. None };
+    ghost told = { λ k. told_of S.is_steady k.is_old (state S.Store k.conn).now };
 
     ghost faults = { λ k. k.faults };
 
@@ -80,7 +100,7 @@ impl<S: Alter> Keeper for SqliteKeeper<S> {
         name: &ProjectName,
         file: &[u8],
     ) -> Result<Put, KeeperError> {
-        match put_file(&mut self.conn, name, file) {
+        match keep_file(&mut self.conn, name, file) {
             Ok(put) => Ok(put),
             Err(error) => Err(counted(&mut self.faults, error)),
         }
@@ -120,7 +140,7 @@ impl<S: Alter> Keeper for SqliteKeeper<S> {
         context: &[u8],
         rows: &[StoredRow],
     ) -> Result<(), KeeperError> {
-        match put_rows(&mut self.conn, context, rows) {
+        match keep_rows(&mut self.conn, context, rows) {
             Ok(()) => Ok(()),
             Err(error) => Err(counted(&mut self.faults, error)),
         }

@@ -4,13 +4,16 @@
 //! one transaction. Where the database refuses a statement for another cause than memory, the keeper's count of faults rises.
 #![tactic(auto)]
 
+mod autocommit;
 mod failure;
 mod keeper;
 mod project_table;
 mod result_table;
 mod schema;
+mod steady;
 #[cfg(test)]
 mod tests;
 mod version;
 
 pub use keeper::SqliteKeeper;
+pub use steady::Steady;

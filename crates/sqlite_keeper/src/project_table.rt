@@ -1,15 +1,19 @@
 // The statements on the table `project`.
-ghost use Rattle.std.specs.Prelude.{◌≡◌, [], ◌∷◌, ◌++◌, slice_get, IfOk, OnOk};
+ghost use Rattle.std.specs.Prelude.{◌≡◌, ℕ, pos, if◌then◌else◌, is_some, false, nat_le, [], ◌∷◌, ◌++◌, slice_get, slice_index_or, IfOk, OnOk, OnErr, IsTrue};
 ghost use Rattle.std.specs.Option.{option_map};
 ghost use Rattle.std.specs.List.{filter_map};
-ghost use Rattle.std.specs.FinMap.{get};
+ghost use Rattle.std.specs.FinMap.{get, contains_key, insert, remove, len};
 ghost use Rattle.sqlite.specs.State.{HasCleanDisk};
 ghost use Rattle.sqlite.specs.Held.{state};
 ghost use Rattle.sqlite.specs.Order.{column, bytes};
+ghost use Rattle.sqlite.specs.declared.types.Value.TheVariants.{Int};
 ghost use Rattle.result_keeper.specs.Entries.{file_bytes};
-ghost use Rattle.result_keeper.specs.Kept.{names_in};
-ghost use Rattle.sqlite_keeper.specs.Tables.{IsStore, projects_in, shown_name};
+ghost use Rattle.result_keeper.specs.ProjectName.{is_project_name};
+ghost use Rattle.result_keeper.specs.Kept.{names_in, most_projects, put_answer, put_file};
+ghost use Rattle.sqlite_keeper.specs.Tables.{IsStore, projects_in, results_in, shown_name};
+ghost use Rattle.sqlite_keeper.specs.Changes.{HasTables, IsStill, RunsWithin};
 
+use crate::autocommit::{execute, query};
 use result_keeper::{ProjectName, Put};
 use sqlite::types::ValueRef;
 use sqlite::{Alter, Connection, Error, ErrorCode, Row, Transaction};
@@ -19,8 +23,7 @@ const SELECT_FILE: &str = "SELECT file FROM project WHERE name = ?1";
 
 const COUNT_PROJECTS: &str = "SELECT COUNT(*) FROM project";
 
-const PUT_PROJECT: &str =
-    "INSERT INTO project(name, file) VALUES (?1, ?2) ON CONFLICT(name) DO UPDATE SET file = excluded.file";
+const INSERT_PROJECT: &str = "INSERT INTO project(name, file) VALUES (?1, ?2)";
 
 const DELETE_PROJECT: &str = "DELETE FROM project WHERE name = ?1";
 
@@ -31,10 +34,12 @@ const MOST_PROJECTS: i64 = 10_000;
 
 // The rows with the file of a project: one at most.
 fn rows_named<S: Alter>(conn: &mut Connection<S>, name: &ProjectName) -> Result<Vec<Row>, Error>
-    ensures { HasCleanDisk (state S.Store conn.new) → IsStore (state S.Store conn.old).now
+    ensures rows { HasCleanDisk (state S.Store conn.new) → IsStore (state S.Store conn.old).now
         → IfOk result (λ rows. option_map (λ r. bytes (column r 0)) (slice_get rows.items 0) ≡ get (projects_in (state S.Store conn.old).now) name.now) }
+    ensures stays { HasCleanDisk (state S.Store conn.new) → IsTrue (state S.Store conn.new).is_open
+        → IsStill (state S.Store conn.old).now (state S.Store conn.new).now }
 {
-    conn.query_all(SELECT_FILE, &[ValueRef::Text(name.bytes())])
+    query(conn, SELECT_FILE, &[ValueRef::Text(name.bytes())])
 }
 
 fn first_blob(rows: &[Row]) -> Result<Option<Vec<u8>>, Error>
@@ -51,51 +56,196 @@ pub fn find_file<S: Alter>(
     conn: &mut Connection<S>,
     name: &ProjectName,
 ) -> Result<Option<Vec<u8>>, Error>
-    ensures { HasCleanDisk (state S.Store conn.new) → IsStore (state S.Store conn.old).now
+    ensures file { HasCleanDisk (state S.Store conn.new) → IsStore (state S.Store conn.old).now
         → IfOk result (λ file. file_bytes file ≡ get (projects_in (state S.Store conn.old).now) name.now) }
+    ensures stays { HasCleanDisk (state S.Store conn.new) → IsTrue (state S.Store conn.new).is_open
+        → IsStill (state S.Store conn.old).now (state S.Store conn.new).now }
 {
     let rows = rows_named(conn, name)?;
     first_blob(&rows)
 }
 
-fn is_kept<S: Alter>(tx: &mut Transaction<'_, S>, name: &ProjectName) -> Result<bool, Error> {
-    let rows = tx.query_all(SELECT_FILE, &[ValueRef::Text(name.bytes())])?;
-    Ok(!rows.is_empty())
+fn has_row(rows: &[Row]) -> bool
+    ensures { result ≡ is_some (slice_get rows.now 0) }
+{
+    rows.first().is_some()
 }
 
-fn is_full<S: Alter>(tx: &mut Transaction<'_, S>) -> Result<bool, Error> {
-    let count: i64 = tx.query_row(COUNT_PROJECTS, &[])?.get(0)?;
-    Ok(count >= MOST_PROJECTS)
+// Whether a file is kept under a name.
+fn is_kept<S: Alter>(tx: &mut Transaction<'_, S>, name: &ProjectName) -> Result<bool, Error>
+    ensures same_reference { tx.new.conn.ghost_name ≡ tx.old.conn.ghost_name }
+    ensures clean { HasCleanDisk (state S.Store tx.new.conn.now) → HasCleanDisk (state S.Store tx.old.conn.now) }
+    ensures kept { HasCleanDisk (state S.Store tx.new.conn.now) → IsStore (state S.Store tx.old.conn.now).now
+        → IfOk result (λ kept. kept ≡ contains_key (projects_in (state S.Store tx.old.conn.now).now) name.now) }
+    ensures stays { HasCleanDisk (state S.Store tx.new.conn.now) → IsStore (state S.Store tx.old.conn.now).now
+        → OnOk result ((state S.Store tx.new.conn.now).now ≡ (state S.Store tx.old.conn.now).now) }
+    ensures within { IsStore (state S.Store tx.old.conn.now).now → RunsWithin (state S.Store tx.old.conn.now) (state S.Store tx.new.conn.now) result }
+{
+    let rows = tx.query_all(SELECT_FILE, &[ValueRef::Text(name.bytes())])?;
+    Ok(has_row(&rows))
+}
+
+// The number in the first row.
+pub fn count_in(rows: &[Row]) -> Result<i64, Error>
+    ensures { IfOk result (λ count. column (slice_index_or rows.now 0 []) 0 ≡ Int count) }
+{
+    match rows.first() {
+        Some(row) => row.get(0),
+        None => Err(Error::QueryReturnedNoRows),
+    }
+}
+
+// Whether these are as many projects as a keeper takes.
+fn are_most(count: i64) -> bool
+    ensures { (n : ℕ) → count ≡ pos n → result ≡ nat_le most_projects n }
+{
+    count >= MOST_PROJECTS
+}
+
+// Whether as many projects are kept as a keeper takes.
+fn is_full<S: Alter>(tx: &mut Transaction<'_, S>) -> Result<bool, Error>
+    ensures same_reference { tx.new.conn.ghost_name ≡ tx.old.conn.ghost_name }
+    ensures clean { HasCleanDisk (state S.Store tx.new.conn.now) → HasCleanDisk (state S.Store tx.old.conn.now) }
+    ensures full { HasCleanDisk (state S.Store tx.new.conn.now) → IsStore (state S.Store tx.old.conn.now).now
+        → IfOk result (λ full. full ≡ nat_le most_projects (len (projects_in (state S.Store tx.old.conn.now).now))) }
+    ensures stays { HasCleanDisk (state S.Store tx.new.conn.now) → IsStore (state S.Store tx.old.conn.now).now
+        → OnOk result ((state S.Store tx.new.conn.now).now ≡ (state S.Store tx.old.conn.now).now) }
+    ensures within { IsStore (state S.Store tx.old.conn.now).now → RunsWithin (state S.Store tx.old.conn.now) (state S.Store tx.new.conn.now) result }
+{
+    let rows = tx.query_all(COUNT_PROJECTS, &[])?;
+    let count = count_in(&rows)?;
+    Ok(are_most(count))
+}
+
+fn put_by(kept: bool, full: bool) -> Put
+    ensures { result ≡ (if kept then Put.Replaced else (if full then Put.Full else Put.Added)) }
+{
+    if kept {
+        Put::Replaced
+    } else if full {
+        Put::Full
+    } else {
+        Put::Added
+    }
+}
+
+// What becomes of a file that is put under a name.
+fn put_of<S: Alter>(tx: &mut Transaction<'_, S>, name: &ProjectName) -> Result<Put, Error>
+    ensures same_reference { tx.new.conn.ghost_name ≡ tx.old.conn.ghost_name }
+    ensures answer { HasCleanDisk (state S.Store tx.new.conn.now) → IsStore (state S.Store tx.old.conn.now).now
+        → IfOk result (λ put. put ≡ put_answer (projects_in (state S.Store tx.old.conn.now).now) name.now) }
+    ensures stays { HasCleanDisk (state S.Store tx.new.conn.now) → IsStore (state S.Store tx.old.conn.now).now
+        → OnOk result ((state S.Store tx.new.conn.now).now ≡ (state S.Store tx.old.conn.now).now) }
+    ensures within { IsStore (state S.Store tx.old.conn.now).now → RunsWithin (state S.Store tx.old.conn.now) (state S.Store tx.new.conn.now) result }
+{
+    let kept = is_kept(tx, name)?;
+    let full = is_full(tx)?;
+    Ok(put_by(kept, full))
+}
+
+fn delete_file<S: Alter>(tx: &mut Transaction<'_, S>, name: &ProjectName) -> Result<usize, Error>
+    ensures same_reference { tx.new.conn.ghost_name ≡ tx.old.conn.ghost_name }
+    ensures removed { HasCleanDisk (state S.Store tx.new.conn.now) → IsTrue (state S.Store tx.old.conn.now).in_transaction → IsStore (state S.Store tx.old.conn.now).now
+        → OnOk result (HasTables (remove (projects_in (state S.Store tx.old.conn.now).now) name.now) (results_in (state S.Store tx.old.conn.now).now) (state S.Store tx.new.conn.now).now) }
+    ensures within { RunsWithin (state S.Store tx.old.conn.now) (state S.Store tx.new.conn.now) result }
+{
+    tx.execute(DELETE_PROJECT, &[ValueRef::Text(name.bytes())])
+}
+
+// Whether the text is the name of a project, as that of every `ProjectName` is.
+fn is_name(text: &[u8]) -> bool
+    ensures { result ≡ is_project_name text.now }
+{
+    ProjectName::new(text).is_some()
+}
+
+fn insert_file<S: Alter>(
+    tx: &mut Transaction<'_, S>,
+    name: &ProjectName,
+    file: &[u8],
+) -> Result<usize, Error>
+    ensures same_reference { tx.new.conn.ghost_name ≡ tx.old.conn.ghost_name }
+    ensures added { HasCleanDisk (state S.Store tx.new.conn.now) → IsTrue (state S.Store tx.old.conn.now).in_transaction → IsStore (state S.Store tx.old.conn.now).now
+        → contains_key (projects_in (state S.Store tx.old.conn.now).now) name.now ≡ false
+        → OnOk result (HasTables (insert (projects_in (state S.Store tx.old.conn.now).now) name.now file.now) (results_in (state S.Store tx.old.conn.now).now) (state S.Store tx.new.conn.now).now) }
+    ensures within { RunsWithin (state S.Store tx.old.conn.now) (state S.Store tx.new.conn.now) result }
+{
+    if !is_name(name.bytes()) {
+        return Err(Error::InvalidQuery);
+    }
+    tx.execute(
+        INSERT_PROJECT,
+        &[ValueRef::Text(name.bytes()), ValueRef::Blob(file)],
+    )
+}
+
+// Puts a file under a name, in place of the one that is kept there.
+fn replace_file<S: Alter>(
+    tx: &mut Transaction<'_, S>,
+    name: &ProjectName,
+    file: &[u8],
+) -> Result<usize, Error>
+    ensures same_reference { tx.new.conn.ghost_name ≡ tx.old.conn.ghost_name }
+    ensures put { HasCleanDisk (state S.Store tx.new.conn.now) → IsTrue (state S.Store tx.old.conn.now).in_transaction → IsStore (state S.Store tx.old.conn.now).now
+        → OnOk result (HasTables (insert (projects_in (state S.Store tx.old.conn.now).now) name.now file.now) (results_in (state S.Store tx.old.conn.now).now) (state S.Store tx.new.conn.now).now) }
+    ensures within { RunsWithin (state S.Store tx.old.conn.now) (state S.Store tx.new.conn.now) result }
+{
+    delete_file(tx, name)?;
+    insert_file(tx, name, file)
+}
+
+fn put_within<S: Alter>(
+    tx: &mut Transaction<'_, S>,
+    name: &ProjectName,
+    file: &[u8],
+) -> Result<Put, Error>
+    ensures same_reference { tx.new.conn.ghost_name ≡ tx.old.conn.ghost_name }
+    ensures answer { HasCleanDisk (state S.Store tx.new.conn.now) → IsStore (state S.Store tx.old.conn.now).now
+        → IfOk result (λ put. put ≡ put_answer (projects_in (state S.Store tx.old.conn.now).now) name.now) }
+    ensures put { HasCleanDisk (state S.Store tx.new.conn.now) → IsTrue (state S.Store tx.old.conn.now).in_transaction → IsStore (state S.Store tx.old.conn.now).now
+        → IfOk result (λ put. HasTables (put_file put name.now file.now (projects_in (state S.Store tx.old.conn.now).now)) (results_in (state S.Store tx.old.conn.now).now) (state S.Store tx.new.conn.now).now) }
+    ensures within { IsStore (state S.Store tx.old.conn.now).now → RunsWithin (state S.Store tx.old.conn.now) (state S.Store tx.new.conn.now) result }
+{
+    let put = put_of(tx, name)?;
+    if put == Put::Full {
+        return Ok(put);
+    }
+    replace_file(tx, name, file)?;
+    Ok(put)
 }
 
 // Keeps a file under a name, unless the name is new and there are as many projects as a keeper takes.
-pub fn put_file<S: Alter>(
+pub fn keep_file<S: Alter>(
     conn: &mut Connection<S>,
     name: &ProjectName,
     file: &[u8],
-) -> Result<Put, Error> {
+) -> Result<Put, Error>
+    ensures answer { HasCleanDisk (state S.Store conn.new) → IsStore (state S.Store conn.old).now
+        → IfOk result (λ put. put ≡ put_answer (projects_in (state S.Store conn.old).now) name.now) }
+    ensures put { HasCleanDisk (state S.Store conn.new) → IsStore (state S.Store conn.old).now
+        → IfOk result (λ put. HasTables (put_file put name.now file.now (projects_in (state S.Store conn.old).now)) (results_in (state S.Store conn.old).now) (state S.Store conn.new).now) }
+    ensures err { HasCleanDisk (state S.Store conn.new) → IsTrue (state S.Store conn.new).is_open → IsStore (state S.Store conn.old).now
+        → OnErr result ((state S.Store conn.new).now ≡ (state S.Store conn.old).now) }
+{
     if !conn.is_autocommit() {
         return Err(Error::SqliteFailure(ErrorCode::TransactionState));
     }
     let mut tx = conn.transaction();
-    let put = if is_kept(&mut tx, name)? {
-        Put::Replaced
-    } else if is_full(&mut tx)? {
-        return Ok(Put::Full);
-    } else {
-        Put::Added
-    };
-    tx.execute(
-        PUT_PROJECT,
-        &[ValueRef::Text(name.bytes()), ValueRef::Blob(file)],
-    )?;
+    let put = put_within(&mut tx, name, file)?;
     tx.commit()?;
     Ok(put)
 }
 
 // Gives up a project, and says whether it was kept.
-pub fn remove_file<S: Alter>(conn: &mut Connection<S>, name: &ProjectName) -> Result<bool, Error> {
-    let removed = conn.execute(DELETE_PROJECT, &[ValueRef::Text(name.bytes())])?;
+pub fn remove_file<S: Alter>(conn: &mut Connection<S>, name: &ProjectName) -> Result<bool, Error>
+    ensures kept { HasCleanDisk (state S.Store conn.new) → IsStore (state S.Store conn.old).now
+        → IfOk result (λ kept. kept ≡ contains_key (projects_in (state S.Store conn.old).now) name.now) }
+    ensures removed { HasCleanDisk (state S.Store conn.new) → IsStore (state S.Store conn.old).now
+        → OnOk result (HasTables (remove (projects_in (state S.Store conn.old).now) name.now) (results_in (state S.Store conn.old).now) (state S.Store conn.new).now) }
+    ensures err { HasCleanDisk (state S.Store conn.new) → IsTrue (state S.Store conn.new).is_open
+        → OnErr result ((state S.Store conn.new).now ≡ (state S.Store conn.old).now) }
+{
+    let removed = execute(conn, DELETE_PROJECT, &[ValueRef::Text(name.bytes())])?;
     Ok(removed > 0)
 }
 
@@ -111,10 +261,12 @@ fn name_in(row: &Row) -> Result<Option<ProjectName>, Error>
 
 // The rows of the projects by their names.
 fn named_rows<S: Alter>(conn: &mut Connection<S>) -> Result<Vec<Row>, Error>
-    ensures { HasCleanDisk (state S.Store conn.new) → IsStore (state S.Store conn.old).now
+    ensures rows { HasCleanDisk (state S.Store conn.new) → IsStore (state S.Store conn.old).now
         → IfOk result (λ rows. filter_map shown_name rows.items ≡ names_in (projects_in (state S.Store conn.old).now)) }
+    ensures stays { HasCleanDisk (state S.Store conn.new) → IsTrue (state S.Store conn.new).is_open
+        → IsStill (state S.Store conn.old).now (state S.Store conn.new).now }
 {
-    conn.query_all(SELECT_NAMES, &[])
+    query(conn, SELECT_NAMES, &[])
 }
 
 fn push_name(names: &mut Vec<ProjectName>, row: &Row) -> Result<(), Error>
@@ -141,8 +293,10 @@ pub fn names_in_order<S: Alter>(
     alloc: Global,
     conn: &mut Connection<S>,
 ) -> Result<Vec<ProjectName>, Error>
-    ensures { HasCleanDisk (state S.Store conn.new) → IsStore (state S.Store conn.old).now
+    ensures names { HasCleanDisk (state S.Store conn.new) → IsStore (state S.Store conn.old).now
         → IfOk result (λ names. names.items ≡ names_in (projects_in (state S.Store conn.old).now)) }
+    ensures stays { HasCleanDisk (state S.Store conn.new) → IsTrue (state S.Store conn.new).is_open
+        → IsStill (state S.Store conn.old).now (state S.Store conn.new).now }
 {
     let rows = named_rows(conn)?;
     names_shown(alloc, &rows)

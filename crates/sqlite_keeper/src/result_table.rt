@@ -1,30 +1,35 @@
 // The statements on the table `result`.
-ghost use Rattle.std.specs.Prelude.{◌≡◌, map, IfOk};
-ghost use Rattle.std.specs.FinMap.{entries};
+ghost use Rattle.std.specs.Prelude.{◌≡◌, false, map, IfOk, OnOk, OnErr, IsTrue};
+ghost use Rattle.std.specs.FinMap.{entries, contains_key, insert, remove};
 ghost use Rattle.sqlite.specs.State.{HasCleanDisk};
 ghost use Rattle.sqlite.specs.Held.{state};
 ghost use Rattle.result_keeper.specs.Entries.{pair_of};
-ghost use Rattle.result_keeper.specs.Kept.{contexts_in, within};
-ghost use Rattle.sqlite_keeper.specs.Tables.{IsStore, results_in, shown_text, shown_pair};
+ghost use Rattle.result_keeper.specs.Kept.{contexts_in, within, put_rows};
+ghost use Rattle.sqlite_keeper.specs.Tables.{IsStore, projects_in, results_in, shown_text, shown_pair};
+ghost use Rattle.sqlite_keeper.specs.Changes.{HasTables, IsStill, RunsWithin};
 
+use crate::autocommit::query;
 use result_keeper::StoredRow;
 use sqlite::types::ValueRef;
-use sqlite::{Alter, Connection, Error, ErrorCode, Row};
+use sqlite::{Alter, Connection, Error, ErrorCode, Row, Transaction};
 use std::alloc::Global;
 
 const SELECT_CONTEXTS: &str = "SELECT DISTINCT context FROM result ORDER BY context";
 
 const SELECT_RESULTS: &str = "SELECT tree, value FROM result WHERE context = ?1 ORDER BY tree";
 
-const PUT_RESULT: &str =
-    "INSERT INTO result(context, tree, value) VALUES (?1, ?2, ?3) ON CONFLICT(context, tree) DO UPDATE SET value = excluded.value";
+const DELETE_RESULT: &str = "DELETE FROM result WHERE context = ?1 AND tree = ?2";
+
+const INSERT_RESULT: &str = "INSERT INTO result(context, tree, value) VALUES (?1, ?2, ?3)";
 
 // A row for each context, in order.
 fn context_rows<S: Alter>(conn: &mut Connection<S>) -> Result<Vec<Row>, Error>
-    ensures { HasCleanDisk (state S.Store conn.new) → IsStore (state S.Store conn.old).now
+    ensures rows { HasCleanDisk (state S.Store conn.new) → IsStore (state S.Store conn.old).now
         → IfOk result (λ rows. map shown_text rows.items ≡ contexts_in (results_in (state S.Store conn.old).now)) }
+    ensures stays { HasCleanDisk (state S.Store conn.new) → IsTrue (state S.Store conn.new).is_open
+        → IsStill (state S.Store conn.old).now (state S.Store conn.new).now }
 {
-    conn.query_all(SELECT_CONTEXTS, &[])
+    query(conn, SELECT_CONTEXTS, &[])
 }
 
 fn blob_in(row: &Row) -> Result<Vec<u8>, Error>
@@ -48,8 +53,10 @@ pub fn contexts_in_order<S: Alter>(
     alloc: Global,
     conn: &mut Connection<S>,
 ) -> Result<Vec<Vec<u8>>, Error>
-    ensures { HasCleanDisk (state S.Store conn.new) → IsStore (state S.Store conn.old).now
+    ensures contexts { HasCleanDisk (state S.Store conn.new) → IsStore (state S.Store conn.old).now
         → IfOk result (λ contexts. map (λ c. c.items) contexts.items ≡ contexts_in (results_in (state S.Store conn.old).now)) }
+    ensures stays { HasCleanDisk (state S.Store conn.new) → IsTrue (state S.Store conn.new).is_open
+        → IsStill (state S.Store conn.old).now (state S.Store conn.new).now }
 {
     let rows = context_rows(conn)?;
     blobs_shown(alloc, &rows)
@@ -57,10 +64,12 @@ pub fn contexts_in_order<S: Alter>(
 
 // The rows of a context, in the order of their trees.
 fn rows_within<S: Alter>(conn: &mut Connection<S>, context: &[u8]) -> Result<Vec<Row>, Error>
-    ensures { HasCleanDisk (state S.Store conn.new) → IsStore (state S.Store conn.old).now
+    ensures rows { HasCleanDisk (state S.Store conn.new) → IsStore (state S.Store conn.old).now
         → IfOk result (λ rows. map shown_pair rows.items ≡ within context.now (entries (results_in (state S.Store conn.old).now))) }
+    ensures stays { HasCleanDisk (state S.Store conn.new) → IsTrue (state S.Store conn.new).is_open
+        → IsStill (state S.Store conn.old).now (state S.Store conn.new).now }
 {
-    conn.query_all(SELECT_RESULTS, &[ValueRef::Blob(context)])
+    query(conn, SELECT_RESULTS, &[ValueRef::Blob(context)])
 }
 
 fn stored_row(row: &Row) -> Result<StoredRow, Error>
@@ -87,32 +96,100 @@ pub fn results_in_order<S: Alter>(
     conn: &mut Connection<S>,
     context: &[u8],
 ) -> Result<Vec<StoredRow>, Error>
-    ensures { HasCleanDisk (state S.Store conn.new) → IsStore (state S.Store conn.old).now
+    ensures rows { HasCleanDisk (state S.Store conn.new) → IsStore (state S.Store conn.old).now
         → IfOk result (λ found. map pair_of found.items ≡ within context.now (entries (results_in (state S.Store conn.old).now))) }
+    ensures stays { HasCleanDisk (state S.Store conn.new) → IsTrue (state S.Store conn.new).is_open
+        → IsStill (state S.Store conn.old).now (state S.Store conn.new).now }
 {
     let rows = rows_within(conn, context)?;
     rows_shown(alloc, &rows)
 }
 
+fn delete_row<S: Alter>(
+    tx: &mut Transaction<'_, S>,
+    context: &[u8],
+    tree: &[u8],
+) -> Result<usize, Error>
+    ensures same_reference { tx.new.conn.ghost_name ≡ tx.old.conn.ghost_name }
+    ensures removed { HasCleanDisk (state S.Store tx.new.conn.now) → IsTrue (state S.Store tx.old.conn.now).in_transaction → IsStore (state S.Store tx.old.conn.now).now
+        → OnOk result (HasTables (projects_in (state S.Store tx.old.conn.now).now) (remove (results_in (state S.Store tx.old.conn.now).now) (context.now, tree.now)) (state S.Store tx.new.conn.now).now) }
+    ensures within { RunsWithin (state S.Store tx.old.conn.now) (state S.Store tx.new.conn.now) result }
+{
+    tx.execute(
+        DELETE_RESULT,
+        &[ValueRef::Blob(context), ValueRef::Blob(tree)],
+    )
+}
+
+fn insert_row<S: Alter>(
+    tx: &mut Transaction<'_, S>,
+    context: &[u8],
+    tree: &[u8],
+    value: &[u8],
+) -> Result<usize, Error>
+    ensures same_reference { tx.new.conn.ghost_name ≡ tx.old.conn.ghost_name }
+    ensures added { HasCleanDisk (state S.Store tx.new.conn.now) → IsTrue (state S.Store tx.old.conn.now).in_transaction → IsStore (state S.Store tx.old.conn.now).now
+        → contains_key (results_in (state S.Store tx.old.conn.now).now) (context.now, tree.now) ≡ false
+        → OnOk result (HasTables (projects_in (state S.Store tx.old.conn.now).now) (insert (results_in (state S.Store tx.old.conn.now).now) (context.now, tree.now) value.now) (state S.Store tx.new.conn.now).now) }
+    ensures within { RunsWithin (state S.Store tx.old.conn.now) (state S.Store tx.new.conn.now) result }
+{
+    tx.execute(
+        INSERT_RESULT,
+        &[
+            ValueRef::Blob(context),
+            ValueRef::Blob(tree),
+            ValueRef::Blob(value),
+        ],
+    )
+}
+
+// Puts a value under a tree of a context, in place of the one that is kept there.
+fn replace_row<S: Alter>(
+    tx: &mut Transaction<'_, S>,
+    context: &[u8],
+    tree: &[u8],
+    value: &[u8],
+) -> Result<usize, Error>
+    ensures same_reference { tx.new.conn.ghost_name ≡ tx.old.conn.ghost_name }
+    ensures put { HasCleanDisk (state S.Store tx.new.conn.now) → IsTrue (state S.Store tx.old.conn.now).in_transaction → IsStore (state S.Store tx.old.conn.now).now
+        → OnOk result (HasTables (projects_in (state S.Store tx.old.conn.now).now) (insert (results_in (state S.Store tx.old.conn.now).now) (context.now, tree.now) value.now) (state S.Store tx.new.conn.now).now) }
+    ensures within { RunsWithin (state S.Store tx.old.conn.now) (state S.Store tx.new.conn.now) result }
+{
+    delete_row(tx, context, tree)?;
+    insert_row(tx, context, tree, value)
+}
+
+fn put_each<S: Alter>(
+    tx: &mut Transaction<'_, S>,
+    context: &[u8],
+    rows: &[StoredRow],
+) -> Result<(), Error>
+    ensures same_reference { tx.new.conn.ghost_name ≡ tx.old.conn.ghost_name }
+    ensures put { HasCleanDisk (state S.Store tx.new.conn.now) → IsTrue (state S.Store tx.old.conn.now).in_transaction → IsStore (state S.Store tx.old.conn.now).now
+        → OnOk result (HasTables (projects_in (state S.Store tx.old.conn.now).now) (put_rows context.now (map pair_of rows.now) (results_in (state S.Store tx.old.conn.now).now)) (state S.Store tx.new.conn.now).now) }
+    ensures within { RunsWithin (state S.Store tx.old.conn.now) (state S.Store tx.new.conn.now) result }
+{
+    for row in rows {
+        replace_row(tx, context, &row.tree, &row.value)?;
+    }
+    Ok(())
+}
+
 // Puts rows of a context, all or none.
-pub fn put_rows<S: Alter>(
+pub fn keep_rows<S: Alter>(
     conn: &mut Connection<S>,
     context: &[u8],
     rows: &[StoredRow],
-) -> Result<(), Error> {
+) -> Result<(), Error>
+    ensures put { HasCleanDisk (state S.Store conn.new) → IsStore (state S.Store conn.old).now
+        → OnOk result (HasTables (projects_in (state S.Store conn.old).now) (put_rows context.now (map pair_of rows.now) (results_in (state S.Store conn.old).now)) (state S.Store conn.new).now) }
+    ensures err { HasCleanDisk (state S.Store conn.new) → IsTrue (state S.Store conn.new).is_open
+        → OnErr result ((state S.Store conn.new).now ≡ (state S.Store conn.old).now) }
+{
     if !conn.is_autocommit() {
         return Err(Error::SqliteFailure(ErrorCode::TransactionState));
     }
     let mut tx = conn.transaction();
-    for row in rows {
-        tx.execute(
-            PUT_RESULT,
-            &[
-                ValueRef::Blob(context),
-                ValueRef::Blob(&row.tree),
-                ValueRef::Blob(&row.value),
-            ],
-        )?;
-    }
+    put_each(&mut tx, context, rows)?;
     tx.commit()
 }

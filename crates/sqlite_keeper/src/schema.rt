@@ -1,5 +1,14 @@
 // The tables of the store.
-use sqlite::{Alter, Connection, Error};
+ghost use Rattle.std.specs.Prelude.{◌≡◌, ℕ, true, false, Ok, OnOk, bytes_eq, []};
+ghost use Rattle.std.specs.List.{list_any};
+ghost use Rattle.sqlite.specs.State.{Executes};
+ghost use Rattle.sqlite.specs.Held.{state};
+ghost use Rattle.sqlite_keeper.specs.Schema.{no_schema, store_schema};
+ghost use Rattle.sqlite_keeper.specs.Changes.{IsEmptyStore};
+
+use crate::autocommit::execute;
+use crate::steady::Steady;
+use sqlite::{Connection, Error};
 
 const PROJECT_TABLE: &str =
     "CREATE TABLE project(name TEXT PRIMARY KEY NOT NULL, file BLOB NOT NULL) STRICT";
@@ -10,7 +19,9 @@ const RESULT_TABLE: &str =
 const STORE_TABLE: &str =
     "CREATE TABLE store(one INTEGER PRIMARY KEY NOT NULL CHECK (one = 1), version INTEGER NOT NULL) STRICT";
 
-fn has_table<S: Alter>(conn: &Connection<S>, name: &[u8]) -> bool {
+fn has_table<S: Steady>(conn: &Connection<S>, name: &[u8]) -> bool
+    ensures { result ≡ list_any (λ t. bytes_eq t.name name.now) (state S.Store conn.now).now.schema.tables }
+{
     conn.schema()
         .tables
         .as_slice()
@@ -19,15 +30,24 @@ fn has_table<S: Alter>(conn: &Connection<S>, name: &[u8]) -> bool {
 }
 
 // Makes a table where it is not there. The text is kept as it is written.
-fn make_table<S: Alter>(conn: &mut Connection<S>, name: &[u8], text: &str) -> Result<(), Error> {
+fn make_table<S: Steady>(conn: &mut Connection<S>, name: &[u8], text: &str) -> Result<(), Error>
+    ensures made { S.is_steady ≡ true → list_any (λ t. bytes_eq t.name name.now) (state S.Store conn.old).now.schema.tables ≡ false
+        → OnOk result ((count : ℕ) × Executes text.now [] (state S.Store conn.old) (state S.Store conn.new) (Ok count)) }
+    ensures there { list_any (λ t. bytes_eq t.name name.now) (state S.Store conn.old).now.schema.tables ≡ true
+        → (state S.Store conn.new).now ≡ (state S.Store conn.old).now }
+{
     if !has_table(conn, name) {
-        conn.execute(text, &[])?;
+        execute(conn, text, &[])?;
     }
     Ok(())
 }
 
-pub fn make_tables<S: Alter>(conn: &mut Connection<S>) -> Result<(), Error> {
+pub fn make_tables<S: Steady>(conn: &mut Connection<S>) -> Result<(), Error>
+    ensures made { S.is_steady ≡ true → (state S.Store conn.old).now.schema ≡ no_schema → OnOk result (IsEmptyStore (state S.Store conn.new).now) }
+    ensures there { (state S.Store conn.old).now.schema ≡ store_schema → (state S.Store conn.new).now ≡ (state S.Store conn.old).now }
+{
     make_table(conn, b"project", PROJECT_TABLE)?;
     make_table(conn, b"result", RESULT_TABLE)?;
-    make_table(conn, b"store", STORE_TABLE)
+    make_table(conn, b"store", STORE_TABLE)?;
+    Ok(())
 }

@@ -1,5 +1,5 @@
 use super::*;
-use result_keeper::{Keeper, KeeperError, ProjectName, Put, QuietKeeper, StoredRow};
+use result_keeper::{ContextPair, Keeper, KeeperError, ProjectName, Put, QuietKeeper, StoredRow};
 use sqlite::{Connection, Error, MemStore, params};
 use std::alloc::{AllocError, Global};
 use std::process::Abort;
@@ -142,6 +142,43 @@ fn a_failure_among_many_rows_leaves_none(rt: HostRuntime) -> Result<(), Fail> {
     rows.truncate(50);
     assert_eq!(rt; keeper.put_results(alloc, b"kpz", &rows), Ok(()));
     assert_eq!(rt; keeper.results(alloc, b"kpz")?.len(), 50);
+    Ok(())
+}
+
+fn pair(alloc: Global, old: &str, new: &str) -> Result<ContextPair, AllocError> {
+    Ok(ContextPair {
+        old: old.as_bytes().to_vec(alloc)?,
+        new: new.as_bytes().to_vec(alloc)?,
+    })
+}
+
+// Migrates a store of version 1.
+fn migrate_old(
+    alloc: Global,
+    keeper: &mut SqliteKeeper<MemStore>,
+    pairs: &[ContextPair],
+) -> Result<(), KeeperError> {
+    if keeper.version() != 1 {
+        return Err(KeeperError::Failed);
+    }
+    keeper.migrate(alloc, pairs)
+}
+
+const OLD_RESULTS: &str =
+    "INSERT INTO result(context, tree, value) VALUES (x'63', x'74', x'76'), (x'63', x'75', x'77'), (x'64', x'74', x'78')";
+
+#[test]
+fn migration_moves_the_rows_of_each_context(rt: HostRuntime) -> Result<(), Fail> {
+    let alloc = rt.alloc();
+    let mut keeper = keeper_over(alloc, &[RESULT, OLD_RESULTS])?;
+    let mut pairs = Vec::new(alloc);
+    pairs.push(pair(alloc, "c", "new c")?)?;
+    pairs.push(pair(alloc, "d", "new d")?)?;
+    migrate_old(alloc, &mut keeper, &pairs)?;
+    assert_eq!(rt; keeper.version(), 2);
+    for (context, count) in [("c", 0), ("d", 0), ("new c", 2), ("new d", 1)] {
+        assert_eq!(rt; keeper.results(alloc, context.as_bytes())?.len(), count, "{context}");
+    }
     Ok(())
 }
 
