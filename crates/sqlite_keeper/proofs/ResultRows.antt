@@ -61,9 +61,9 @@ shows_ids c t [] = refl
 shows_ids c t (r ∷ rows) =
     elim (cases_Bool (is_under c (column r 1))) [
       | inl a ↦ elim (cases_Bool (is_under t (column r 2))) [
-          | inl b ↦ rw (blob_test (column r 1) c, blob_test (column r 2) t, a, b) (ap (λ (l : List Row). (column r 0 ∷ []) ∷ l) (shows_ids c t rows))
-          | inr b ↦ rw (blob_test (column r 1) c, blob_test (column r 2) t, a, b) (shows_ids c t rows)
-        ]
+        | inl b ↦ rw (blob_test (column r 1) c, blob_test (column r 2) t, a, b) (ap (λ (l : List Row). (column r 0 ∷ []) ∷ l) (shows_ids c t rows))
+        | inr b ↦ rw (blob_test (column r 1) c, blob_test (column r 2) t, a, b) (shows_ids c t rows)
+      ]
       | inr a ↦ rw (blob_test (column r 1) c, a) (shows_ids c t rows)
     ]
 

@@ -177,7 +177,11 @@ fn migration_moves_the_rows_of_each_context(rt: HostRuntime) -> Result<(), Fail>
     migrate_old(alloc, &mut keeper, &pairs)?;
     assert_eq!(rt; keeper.version(), 2);
     for (context, count) in [("c", 0), ("d", 0), ("new c", 2), ("new d", 1)] {
-        assert_eq!(rt; keeper.results(alloc, context.as_bytes())?.len(), count, "{context}");
+        assert_eq!(rt;
+            keeper.results(alloc, context.as_bytes())?.len(),
+            count,
+            "{context}"
+        );
     }
     Ok(())
 }

@@ -26,4 +26,3 @@ returns-in-Err-clause-stays g c =
     told_stays g.S.Steady.is_steady c.args.self.now.is_old (state g.S.Store c.args.self.now.conn).now (state g.S.Store c.contexts_in_order.new.conn).now (λ steady is.
     let sure = g.met.S.Steady.stays c.contexts_in_order.new.conn.store steady in
     c.contexts_in_order.ensures.stays sure.clean sure.is_open (inl is))
-

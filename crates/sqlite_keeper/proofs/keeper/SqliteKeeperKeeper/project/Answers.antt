@@ -27,4 +27,3 @@ returns-in-Err-clause-stays g c =
     told_stays g.S.Steady.is_steady c.args.self.now.is_old (state g.S.Store c.args.self.now.conn).now (state g.S.Store c.find_file.new.conn).now (λ steady is.
     let sure = g.met.S.Steady.stays c.find_file.new.conn.store steady in
     c.find_file.ensures.stays sure.clean sure.is_open (inl is))
-

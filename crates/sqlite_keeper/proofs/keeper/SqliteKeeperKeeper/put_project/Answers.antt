@@ -21,4 +21,3 @@ returns-in-Err-clause-err g c =
     told_stays g.S.Steady.is_steady c.args.self.now.is_old (state g.S.Store c.args.self.now.conn).now (state g.S.Store c.keep_file.new.conn).now (λ steady is.
     let sure = g.met.S.Steady.stays c.keep_file.new.conn.store steady in
     c.in-Err.ensures.err sure.clean sure.is_open is)
-

@@ -11,4 +11,3 @@ returns-in-Ok-clause-put g c =
     let sure = g.met.S.Steady.stays c.keep_rows.new.conn.store steady in
     let it = c.in-Ok.ensures.put sure.clean is in
     (it.is, kept_is _ _ _ it))
-

@@ -15,4 +15,3 @@ returns-in-Ok-clause-removed g c =
     let sure = g.met.S.Steady.stays c.remove_file.new.conn.store steady in
     let it = c.in-Ok.ensures.removed sure.clean is in
     (it.is, kept_is _ _ _ it))
-
