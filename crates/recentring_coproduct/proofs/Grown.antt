@@ -1,6 +1,5 @@
 -- What is held stays right while the pool grows.
-use Rattle.std.proofs.Common.{◌≡◌, ℕ, ℤ, ◌<◌, ◌≤◌, List, [], ◌∷◌, ◌++◌, map, length, refl, sym, ap, ◌∙◌, arith, subst, Option, Some, None, MatchOption}
-use Rattle.std.specs.List.{AllByRecursion}
+use Rattle.std.proofs.Common.{append-nil, ◌≡◌, ℕ, ℤ, ◌<◌, List, [], ◌∷◌, ◌++◌, map, length, refl, sym, ap, ◌∙◌, arith, subst}
 use Rattle.degree_numbers.specs.declared.types.Types.{Types}
 use Rattle.exact_sums.specs.Keyed.{saturated_terms}
 use Rattle.plain_trees.specs.Coproducts.{Recentred, recentring_terms}
@@ -13,11 +12,9 @@ use Rattle.pooled_cuttings.specs.Lines.{recentred_in, recentred_terms_in, AreRig
 use Rattle.pooled_cuttings.proofs.Means.{right_key_grown, recentred_grown}
 use Rattle.pooled_cuttings.proofs.Rows.{all_append}
 use Rattle.recentring_coproduct.specs.declared.term.RightTerm.{RightTerm}
-use Rattle.recentring_coproduct.specs.Held.{recentring_of, IsTerms, FitsPool}
-use Rattle.recentring_coproduct.specs.Memo.{numbers_in}
-use Rattle.recentring_coproduct.specs.Terms.{key_of, right_terms_in, whole_terms, AreKnownTerms, AreInRange, term_of}
+use Rattle.recentring_coproduct.specs.Held.{recentring_of, IsTerms, FitsPool, HasGrown}
+use Rattle.recentring_coproduct.specs.Terms.{key_of, right_terms_in, AreKnownTerms, AreInRange, term_of}
 use Rattle.recentring_coproduct.proofs.TermsFound.{terms_of_lines, lines_in_range}
-use denote.Ref.{Bor}
 
 abbrev line : Recentred → ℤ → Recentred × ℤ
 line k c = (k, c)
@@ -77,3 +74,6 @@ module _ (c d : Content) (i : ℕ) (ls : List (RightKey × ℕ)) (grown : IsGrow
   values_in_range range =
       let Range : List (Recentred × ℕ) → Type 0 = AreInRange in
       lines_in_range d i ls are_now (subst Range (sym same) range)
+
+pub none_more : (old new : List (ℕ × List RightTerm)) → new ≡ old → HasGrown old new
+none_more old new e = ([], e ∙ sym (append-nil old))

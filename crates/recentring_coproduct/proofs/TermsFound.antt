@@ -1,5 +1,5 @@
 -- Terms that are made of lines.
-use Rattle.std.proofs.Common.{◌≡◌, ℕ, ℤ, pos, ◌+◌, ◌<◌, List, [], ◌∷◌, ◌++◌, map, drop, length, get_or, refl, sym, ap, ◌∙◌, append_assoc, arith}
+use Rattle.std.proofs.Common.{◌≡◌, ℕ, ℤ, pos, ◌+◌, ◌<◌, List, [], ◌∷◌, ◌++◌, map, drop, length, get_or, refl, ap, ◌∙◌, append_assoc}
 use Rattle.exact_sums.specs.Saturating.{overflow}
 use Rattle.exact_sums.specs.Keyed.{rekeyed, saturated_terms}
 use Rattle.plain_trees.specs.Coproducts.{Recentred}

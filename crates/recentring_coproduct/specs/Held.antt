@@ -3,7 +3,8 @@
 --   IsTerms c i ts == the terms ts are those of the tree with the number i, whose coefficients are
 --       all in range
 --   FitsPool held c == so it is with each of the held terms, by the numbers of their trees
-use Rattle.std.specs.Prelude.{◌≡◌, ℕ, ◌<◌, List, length}
+--   HasGrown old new == new is old, maybe with more behind it
+use Rattle.std.specs.Prelude.{◌≡◌, ℕ, ◌<◌, List, ◌++◌, length}
 use Rattle.std.specs.List.{AllByRecursion}
 use Rattle.plain_trees.specs.Coproducts.{Recentred, recentring_terms}
 use Rattle.tree_pool.specs.Content.{Content, tree_at}
@@ -21,3 +22,6 @@ pub record IsTerms (c : Content) (i : ℕ) (ts : List RightTerm) : Type 0 where
 
 abbrev pub FitsPool : List (ℕ × List RightTerm) → Content → Type 0
 FitsPool held c = AllByRecursion (λ f. IsTerms c f.0 f.1) held
+
+abbrev pub HasGrown : List (ℕ × List RightTerm) → List (ℕ × List RightTerm) → Type 0
+HasGrown old new = (more : List (ℕ × List RightTerm)) × (new ≡ old ++ more)

@@ -4,7 +4,7 @@ ghost use Rattle.tree_pool.specs.Content.{Content, tree_at, IsGrown};
 ghost use Rattle.cutting_sizes.specs.Bounds.{IsFit};
 ghost use Rattle.recentring_coproduct.specs.declared.error.CoproductError.TheVariants.{CoefficientTooLarge};
 ghost use Rattle.recentring_coproduct.specs.declared.term.RightTerm.{RightTerm};
-ghost use Rattle.recentring_coproduct.specs.Held.{recentring_of, FitsPool};
+ghost use Rattle.recentring_coproduct.specs.Held.{recentring_of, FitsPool, HasGrown};
 ghost use Rattle.recentring_coproduct.specs.Terms.{right_terms_in, whole_terms, AreKnownTerms, AreInRange};
 
 use crate::error::CoproductError;
@@ -74,6 +74,7 @@ impl<'a> Recentrer<'a> {
             AreInRange (recentring_of pool.old id.0) → ⊥) }
         ensures grown { IsGrown pool.old pool.new }
         ensures fits { FitsPool self.new pool.new }
+        ensures held { HasGrown self.old self.new }
     {
         if let Some(terms) = self.memo.get(id) {
             return Ok(terms);

@@ -1,5 +1,5 @@
 use Rattle.std.proofs.Common.{◌≡◌, ◌+◌, ◌-◌, ◌<◌, length, get_or, map, subst, sym, List, ℕ, arith}
-use Rattle.tree_pool.specs.Content.{tree_at, tree_over, edge_over}
+use Rattle.tree_pool.specs.Content.{tree_at, edge_over}
 use Rattle.tree_pool.proofs.Growth.{grown_trans}
 use Rattle.tree_pool.proofs.Walks.{no_edge, below_at}
 use Rattle.pooled_cuttings.specs.declared.RightKey.{RightKey}

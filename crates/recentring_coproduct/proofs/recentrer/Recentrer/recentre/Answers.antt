@@ -1,11 +1,11 @@
-use Rattle.std.proofs.Common.{◌≡◌, ap, ◌∙◌, sym, subst, List, [], ◌∷◌, ◌++◌, map, ℕ}
+use Rattle.std.proofs.Common.{◌≡◌, refl, ap, ◌∙◌, sym, subst, List, [], ◌∷◌, ◌++◌, map, ℕ}
 use Rattle.std.proofs.lemmas.Result.{err_from_is_err_and}
 use Rattle.plain_trees.specs.Coproducts.{Recentred}
 use Rattle.ordered_lists.specs.Members.{IsIn}
 use Rattle.recentring_coproduct.specs.declared.term.RightTerm.{RightTerm}
 use Rattle.recentring_coproduct.specs.Held.{recentring_of, IsTerms, FitsPool}
 use Rattle.recentring_coproduct.specs.Terms.{whole_terms, AreInRange, term_of}
-use Rattle.recentring_coproduct.proofs.Grown.{recentring_grown, fits_grown, held_at, fits_push, terms_found, values_in_range}
+use Rattle.recentring_coproduct.proofs.Grown.{none_more, recentring_grown, fits_grown, held_at, fits_push, terms_found, values_in_range}
 use Rattle.recentring_coproduct.proofs.recentrer.Recentrer.recentre.Goals as goal
 
 held : (c : goal.In-Some) → IsTerms c.args.pool.now c.args.id.0 c.in-Some.terms.now
@@ -77,3 +77,21 @@ returns-clause-fits c =
     (c.in_ok-terms-2.ensures.pushed ∙ ap (λ (fs : List (ℕ × List RightTerm)). fs ++ (i, c.as_slice-2.result.now) ∷ []) c.self.view_is
     ∙ ap (λ (us : List RightTerm). c.args.self.now ++ (i, us) ∷ []) (pushed c))
     (fits_grown c.args.pool.now q c.recentring_lines.ensures.grown c.args.self.now c.requires.fits) (made c)
+
+pub returns-in-Some-clause-held : goal.returns-in-Some-clause-held
+returns-in-Some-clause-held c = none_more c.args.self.now c.args.self.now refl
+
+pub returns-in_err-lines-clause-held : goal.returns-in_err-lines-clause-held
+returns-in_err-lines-clause-held c = none_more c.args.self.now c.args.self.now refl
+
+pub returns-in_err-terms-clause-held : goal.returns-in_err-terms-clause-held
+returns-in_err-terms-clause-held c = none_more c.args.self.now c.args.self.now refl
+
+pub returns-in_err-terms-2-clause-held : goal.returns-in_err-terms-2-clause-held
+returns-in_err-terms-2-clause-held c = none_more c.args.self.now c.push.new.self (c.in_err-terms-2.ensures.unchanged ∙ c.self.view_is)
+
+pub returns-clause-held : goal.returns-clause-held
+returns-clause-held c = (
+  (c.args.id.0, c.as_slice-2.result.now) ∷ [],
+  c.in_ok-terms-2.ensures.pushed ∙ ap (λ (fs : List (ℕ × List RightTerm)). fs ++ (c.args.id.0, c.as_slice-2.result.now) ∷ []) c.self.view_is,
+)
