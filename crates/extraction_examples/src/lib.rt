@@ -100,16 +100,23 @@ mod tests {
     use super::*;
 
     const KPZ: &[u8] =
-        b"version = 1\nscaling = [2, 1]\n[[noise]]\nname = \"xi\"\ndegree = \"-3/2-k\"\n[[unknown]]\nname = \"u\"\ndegree = \"2\"\nregularity = \"1/4\"\nright = \"u'(0,1)^2+xi\"\n";
+        b"version = 1\nscaling = [2, 1]\n[[noise]]\nname = \"xi\"\ndegree = \"-3/2-k\"\n\
+          [[unknown]]\nname = \"u\"\ndegree = \"2\"\nregularity = \"1/4\"\n\
+          right = \"u'(0,1)^2+xi\"\n";
 
     const TWO_NOISES: &[u8] =
-        b"version = 1\nscaling = [2, 1, 1]\n[[noise]]\nname = \"xi\"\ndegree = \"-2-k\"\n[[noise]]\nname = \"eta\"\ndegree = \"-2-k\"\n[[unknown]]\nname = \"u\"\ndegree = \"2\"\nregularity = \"-1/2\"\nright = \"-u^3+xi+eta\"\n";
+        b"version = 1\nscaling = [2, 1, 1]\n[[noise]]\nname = \"xi\"\ndegree = \"-2-k\"\n\
+          [[noise]]\nname = \"eta\"\ndegree = \"-2-k\"\n[[unknown]]\nname = \"u\"\n\
+          degree = \"2\"\nregularity = \"-1/2\"\nright = \"-u^3+xi+eta\"\n";
 
     const PHI4: &[u8] =
-        b"version = 1\nscaling = [2, 1, 1, 1]\n[[noise]]\nname = \"xi\"\ndegree = \"-5/2-k\"\n[[unknown]]\nname = \"u\"\ndegree = \"2\"\nregularity = \"-3/4\"\nright = \"-u^3+xi\"\n";
+        b"version = 1\nscaling = [2, 1, 1, 1]\n[[noise]]\nname = \"xi\"\ndegree = \"-5/2-k\"\n\
+          [[unknown]]\nname = \"u\"\ndegree = \"2\"\nregularity = \"-3/4\"\nright = \"-u^3+xi\"\n\
+          ";
 
     const WEAK_KERNEL: &[u8] =
-        b"version = 1\nscaling = [1]\n[[noise]]\nname = \"xi\"\ndegree = \"-1/2\"\n[[unknown]]\nname = \"u\"\ndegree = \"1/10\"\nregularity = \"-1/2\"\nright = \"xi\"\n";
+        b"version = 1\nscaling = [1]\n[[noise]]\nname = \"xi\"\ndegree = \"-1/2\"\n[[unknown]]\n\
+          name = \"u\"\ndegree = \"1/10\"\nregularity = \"-1/2\"\nright = \"xi\"\n";
 
     // A line of a table: the coefficient of a forest and a quotient, `None` where it is out of
     // range.
