@@ -111,8 +111,8 @@ mod tests {
 
     const PHI4: &[u8] =
         b"version = 1\nscaling = [2, 1, 1, 1]\n[[noise]]\nname = \"xi\"\ndegree = \"-5/2-k\"\n\
-          [[unknown]]\nname = \"u\"\ndegree = \"2\"\nregularity = \"-3/4\"\nright = \"-u^3+xi\"\n\
-          ";
+          [[unknown]]\nname = \"u\"\ndegree = \"2\"\nregularity = \"-3/4\"\n\
+          right = \"-u^3+xi\"\n";
 
     const WEAK_KERNEL: &[u8] =
         b"version = 1\nscaling = [1]\n[[noise]]\nname = \"xi\"\ndegree = \"-1/2\"\n[[unknown]]\n\
