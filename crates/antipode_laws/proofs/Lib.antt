@@ -1,0 +1,4 @@
+pub mod BySize
+pub mod Congruence
+pub mod OtherTerms
+pub mod Solutions

@@ -1,0 +1,3 @@
+pub mod Antipode
+pub mod Constants
+pub mod Weighed
