@@ -1,4 +1,13 @@
 pub mod BySize
 pub mod Congruence
+pub mod DecoratedRoots
+pub mod Expectations
+pub mod IntegratedEdges
+pub mod Masses
 pub mod OtherTerms
+pub mod Parities
 pub mod Solutions
+pub mod SomeTree
+pub mod TreeSymbols
+pub mod UncutTerm
+pub mod VanishingTrees

@@ -1,3 +1,4 @@
 pub mod Antipode
 pub mod Constants
+pub mod Inheritance
 pub mod Weighed
