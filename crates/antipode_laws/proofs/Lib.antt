@@ -6,6 +6,7 @@ pub mod IntegratedEdges
 pub mod Masses
 pub mod OtherTerms
 pub mod Parities
+pub mod RunLaws
 pub mod Solutions
 pub mod SomeTree
 pub mod TreeSymbols

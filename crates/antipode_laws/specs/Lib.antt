@@ -1,4 +1,5 @@
 pub mod Antipode
 pub mod Constants
 pub mod Inheritance
+pub mod Runs
 pub mod Weighed

@@ -3,4 +3,7 @@
 
 mod laws;
 
-pub use laws::{constants_may_be_held, solutions_are_unique, solutions_exist};
+pub use laws::{
+    antipode_masses, constants_are_expectations, constants_may_be_held, solutions_are_unique,
+    solutions_exist, sums_by_runs, vanishing_trees,
+};
