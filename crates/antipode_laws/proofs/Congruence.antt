@@ -1,5 +1,5 @@
 -- The right side of the recursion depends on the values of the trees in the forests alone.
-use Rattle.std.proofs.Common.{◌≡◌, ℕ, Bool, true, false, List, [], ◌∷◌, ◌++◌, map, flat_map, if◌then◌else◌, refl, sym, ap, ◌∙◌, Option, Some, None}
+use Rattle.std.proofs.Common.{◌≡◌, ℕ, pos, neg_ℤ, Bool, true, false, List, [], ◌∷◌, ◌++◌, map, flat_map, if◌then◌else◌, refl, sym, ap, ◌∙◌, Option, Some, None}
 use Rattle.std.specs.List.{AllByRecursion}
 use Rattle.exact_sums.specs.Saturating.{overflow, saturating_sum, saturating_product, saturating_times}
 use Rattle.degree_numbers.specs.declared.types.Types.{Types}
@@ -36,7 +36,7 @@ module _ (a b : Plain → Weighed) where
     same_sum : (xs : List (Extracted × ℕ)) → AllByRecursion AgreeOn xs → negated_sum of_quotient a xs ≡ negated_sum of_quotient b xs
     same_sum [] h = refl
     same_sum (x ∷ xs) h =
-        ap (λ (ts : List PlainTerm). times_all _ (products ts (of_quotient x.0.1)) ++ negated_sum of_quotient a xs) (same_forest_terms x.0.0 h.0)
+        ap (λ (ts : List PlainTerm). times_all (neg_ℤ (pos x.1)) (products ts (of_quotient x.0.1)) ++ negated_sum of_quotient a xs) (same_forest_terms x.0.0 h.0)
         ∙ ap (λ (ts : List PlainTerm). negated of_quotient b x ++ ts) (same_sum xs h.1)
 
     same_term_mass : (x : Extracted × ℕ) → AgreeOn x → term_mass of_quotient a x ≡ term_mass of_quotient b x

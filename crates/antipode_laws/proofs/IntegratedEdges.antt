@@ -3,11 +3,11 @@ use Rattle.std.proofs.Common.{◌≡◌, ℕ, ◌+◌, ◌-◌, ◌*◌, ◌≤�
 use Rattle.std.specs.List.{list_any}
 use Rattle.std.specs.Ordering.{is_gt}
 use Rattle.std.proofs.lemmas.Bool.Decides.{nat_tests}
-use Rattle.std.proofs.lemmas.Grind.{list_any-append}
+use Rattle.std.proofs.lemmas.List.Folds.{list_any-append}
 use Rattle.ordered_lists.specs.Members.{IsIn}
 use Rattle.exact_sums.specs.Keyed.{keys}
 use Rattle.degree_numbers.specs.declared.types.Types.{Types}
-use Rattle.degree_numbers.specs.Multi.{scaled_size}
+use Rattle.degree_numbers.specs.Multi.{scaled_size, plus_of}
 use Rattle.degree_numbers.specs.Types.{moments_of}
 use Rattle.plain_trees.specs.Plain.{Plain, bare, graft}
 use Rattle.plain_trees.specs.Canon.{Planted, planted_order, with_edge, canon}
@@ -143,13 +143,13 @@ module _ (ty : Types) where
     found_rest k p x y (inr (inr h)) = inr (inr (any_second x.above y.above h))
 
     -- one more edge outside the set
-    found_outside : (s : List ℕ) (k : ℕ) (p : List ℕ) (x y : Entry) (fs : List Plain) → (I x.quotient ≡ true) ⊎ (list_any I fs ≡ true) → Found (raised s y.part) (graft k p x.quotient y.quotient) (fs ++ y.above)
-    found_outside s k p x y fs (inl h) = inr (inl (above_it k p x.quotient y.quotient h))
+    found_outside : (s : List ℕ) (k : ℕ) (p : List ℕ) (x y : Entry) (fs : List Plain) → (I x.quotient ≡ true) ⊎ (list_any I fs ≡ true) → Found (raised s y.part) (graft k (plus_of p s) x.quotient y.quotient) (fs ++ y.above)
+    found_outside s k p x y fs (inl h) = inr (inl (above_it k (plus_of p s) x.quotient y.quotient h))
     found_outside s k p x y fs (inr h) = inr (inr (any_first fs y.above h))
 
-    found_beside : (s : List ℕ) (k : ℕ) (p : List ℕ) (x y : Entry) (fs : List Plain) → Found y.part y.quotient y.above → Found (raised s y.part) (graft k p x.quotient y.quotient) (fs ++ y.above)
+    found_beside : (s : List ℕ) (k : ℕ) (p : List ℕ) (x y : Entry) (fs : List Plain) → Found y.part y.quotient y.above → Found (raised s y.part) (graft k (plus_of p s) x.quotient y.quotient) (fs ++ y.above)
     found_beside s k p x y fs (inl h) = inl (integrated-raised s y.part ∙ h)
-    found_beside s k p x y fs (inr (inl h)) = inr (inl (beside k p x.quotient y.quotient h))
+    found_beside s k p x y fs (inr (inl h)) = inr (inl (beside k (plus_of p s) x.quotient y.quotient h))
     found_beside s k p x y fs (inr (inr h)) = inr (inr (any_second fs y.above h))
 
     -- a child whose root is not touched
@@ -186,15 +186,15 @@ module _ (ty : Types) where
         ]
     found (over_idle {c = c} {t = t} {x = x} {y = y} s k p i m n) h =
         elim (edge_cases k p c t h) [
-          | inl e ↦ inr (inl (here k _ x.quotient y.quotient (within_left (moments_of ty k) m refl e)))
-          | inr (inl e) ↦ found_outside s k _ x y (forest_of x) (idle_found x (no_edge good w m refl) (found m e))
-          | inr (inr e) ↦ found_beside s k _ x y (forest_of x) (found n e)
+          | inl e ↦ inr (inl (here k (plus_of p s) x.quotient y.quotient (within_left (moments_of ty k) m refl e)))
+          | inr (inl e) ↦ found_outside s k p x y (forest_of x) (idle_found x (no_edge good w m refl) (found m e))
+          | inr (inr e) ↦ found_beside s k p x y (forest_of x) (found n e)
         ]
     found (over_component {c = c} {t = t} {x = x} {y = y} s k p i m o g n) h =
         elim (edge_cases k p c t h) [
           | inl e ↦ (let none = (within_part (moments_of ty k) m refl e).1 in absurd cc)
-          | inr (inl e) ↦ found_outside s k _ x y (forest_of x) (component_found x o (found m e))
-          | inr (inr e) ↦ found_beside s k _ x y (forest_of x) (found n e)
+          | inr (inl e) ↦ found_outside s k p x y (forest_of x) (component_found x o (found m e))
+          | inr (inr e) ↦ found_beside s k p x y (forest_of x) (found n e)
         ]
 
     found_some : (e : Entry) → (I e.quotient ≡ true) ⊎ (list_any I (forest_of e) ≡ true) → has_some I (forest_of e, e.quotient) ≡ true

@@ -41,7 +41,7 @@ pub record IsPart (ty : Types) (t f : Plain) : Type 0 where
   pub smaller : IsSmaller f t
   pub typed : HasTypes ty f
 
-all_both : {X : Type 0} (P Q R : X → Type 0) (xs : List X) → ((x : X) → P x → Q x → R x) → AllByRecursion P xs → AllByRecursion Q xs → AllByRecursion R xs
+pub all_both : {X : Type 0} (P Q R : X → Type 0) (xs : List X) → ((x : X) → P x → Q x → R x) → AllByRecursion P xs → AllByRecursion Q xs → AllByRecursion R xs
 all_both P Q R [] h p q = tt
 all_both P Q R (x ∷ xs) h p q = (h x p.0 q.0, all_both P Q R xs h p.1 q.1)
 

@@ -1,6 +1,6 @@
 -- Sums over terms with one forest.
 use Rattle.std.proofs.Common.{◌≡◌, ℕ, ◌+◌, ◌*◌, ℤ, pos, neg_ℤ, ◌+ℤ◌, ◌*ℤ◌, sum, Bool, true, false, cond, if◌then◌else◌, List, [], ◌∷◌, ◌++◌, map, flat_map, refl, sym, ap, ◌∙◌, arith}
-use Rattle.std.proofs.Math.IntN.{*ℤ_comm}
+use Rattle.std.proofs.Math.IntN.{*ℤ_comm, zero-*ℤ}
 use Rattle.std.proofs.lemmas.Int.{ints}
 use Rattle.std.proofs.lemmas.List.{map-append}
 use Rattle.std.proofs.lemmas.Grind.{flat_map-append}
@@ -14,7 +14,7 @@ use Rattle.symbol_polys.specs.Polynomials.{PlainTerm, coefficient_of, HaveSameCo
 use Rattle.symbol_polys.specs.Products.{term_product, products_with, products}
 use Rattle.symbol_polys.proofs.AddLaws.{coefficient_of-append}
 use Rattle.symbol_polys.proofs.PolyLaws.{coefficient_of-times_all}
-use Rattle.symbol_polys.proofs.SignedLaws.{times_times, times_sum}
+use Rattle.symbol_polys.proofs.SignedLaws.{times_times, sum_times}
 use Rattle.symbol_polys.proofs.JoinLaws.{same_term}
 use Rattle.antipode_laws.specs.Weighed.{Weighed, has_terms, forest_terms, forest_mass, negated, negated_sum, term_mass, mass_sum}
 use Rattle.antipode_laws.specs.Runs.{with_forest, quotient_sum, quotient_mass}
@@ -49,8 +49,13 @@ products-multiple z (t ∷ ts) us =
 minus_one : (z : ℤ) → neg_ℤ (pos 1) *ℤ z ≡ neg_ℤ z
 minus_one z = omega (arith, ints)
 
+cancelled : (x y : ℤ) → x +ℤ y ≡ pos 0 → x ≡ neg_ℤ y
+cancelled x y h = omega (arith, ints, h)
+
 minus_times : (c : ℕ) (z : ℤ) → neg_ℤ (pos c) *ℤ z ≡ neg_ℤ (pos c *ℤ z)
-minus_times c z = omega (arith, ints)
+minus_times c z =
+    let none : neg_ℤ (pos c) +ℤ pos c ≡ pos 0 = omega (arith, ints) in
+    cancelled (neg_ℤ (pos c) *ℤ z) (pos c *ℤ z) (sym (sum_times (neg_ℤ (pos c)) (pos c) z) ∙ ap (λ (y : ℤ). y *ℤ z) none ∙ zero-*ℤ z)
 
 minus_sum : (x y a b n m : ℤ) → x ≡ neg_ℤ a → y ≡ neg_ℤ b → n ≡ a +ℤ b → m ≡ neg_ℤ n → x +ℤ y ≡ m
 minus_sum x y a b n m h k l o = omega (arith, ints, h, k, l, o)
@@ -93,14 +98,14 @@ module _ (of_quotient : Plain → List PlainTerm) (a : Plain → Weighed) (fs : 
   one_mass q =
       elim (has_terms (of_quotient q.0)) as (λ b. cond b (saturating_times q.1 (forest_mass a fs)) 0 ≡ saturated (cond b (saturated q.1) 0 * forest_mass a fs)) [
         | true ↦ sym (saturated_mul_left q.1 (forest_mass a fs))
-        | false ↦ ap saturated (omega arith)
+        | false ↦ (let none : 0 ≡ 0 * forest_mass a fs = omega arith in ap saturated none)
       ]
 
   abbrev masses : List (Plain × ℕ) → List ℕ
   masses qs = map (term_mass of_quotient a) (with_forest fs qs)
 
   sum_masses : (qs : List (Plain × ℕ)) → saturated (sum (masses qs)) ≡ saturated (sum (map counted qs) * forest_mass a fs)
-  sum_masses [] = ap saturated (omega arith)
+  sum_masses [] = let none : 0 ≡ 0 * forest_mass a fs = omega arith in ap saturated none
   sum_masses (q ∷ qs) =
       let first = one_mass q in
       let more : sum (map counted (q ∷ qs)) * forest_mass a fs ≡ counted q * forest_mass a fs + sum (map counted qs) * forest_mass a fs = rw (sum-cons (counted q) (map counted qs)) (omega arith) in

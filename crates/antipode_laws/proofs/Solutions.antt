@@ -34,8 +34,8 @@ module _ (ty : Types) (of_quotient : Plain → List PlainTerm) (held : Plain →
   Solves t = HasTypes ty t → (e s : ℕ) → edge_count_of t ≤ e → node_sum t ≤ s → within (below_edges e) s t ≡ value_at ty of_quotient (held t) solution t
 
   at_own : (t : Plain) → HasTypes ty t → Solves t → solution t ≡ value_at ty of_quotient (held t) solution t
-  at_own t typed h = h typed (edge_count_of t) (node_sum t) (omega arith) (omega arith)
   unfolding solution
+  at_own t typed h = h typed (edge_count_of t) (node_sum t) (omega arith) (omega arith)
 
   fewer_edges : (e : ℕ) (f : Plain) → edge_count_of f < e → HasTypes ty f → Solves f → below_edges e f ≡ solution f
   fewer_edges zero f few typed h = absurd (omega (arith, few))
@@ -45,7 +45,7 @@ module _ (ty : Types) (of_quotient : Plain → List PlainTerm) (held : Plain →
   solves t below typed e zero edges nodes =
       same_value (below_edges e) solution of_quotient ty (held t) t typed
       (λ f over small. elim small [
-        | inl less ↦ fewer_edges e f (omega (arith, edges, less)) over (below f small)
+        | inl less ↦ fewer_edges e f (omega (arith, edges, less)) over (below f (inl less))
         | inr both ↦ (let less = both.1 in absurd (omega (arith, nodes, less)))
       ])
   solves t below typed e (suc s) edges nodes =

@@ -2,4 +2,5 @@ pub mod Antipode
 pub mod Constants
 pub mod Inheritance
 pub mod Runs
+pub mod Sizes
 pub mod Weighed

@@ -15,6 +15,7 @@ ghost use Rattle.antipode_laws.specs.Weighed.{Weighed, forest_terms, forest_mass
 ghost use Rattle.antipode_laws.specs.Antipode.{other_terms, nothing, IsAntipode};
 ghost use Rattle.antipode_laws.specs.Constants.{IsConstants, expectation_terms};
 ghost use Rattle.antipode_laws.specs.Inheritance.{has_some, is_decorated, has_odd, has_odd_sum};
+ghost use Rattle.antipode_laws.specs.Sizes.{IsWithinMass};
 ghost use Rattle.antipode_laws.specs.Runs.{with_forest, quotient_sum, quotient_mass};
 
 /// There is a twisted antipode, and there are constants for whatever values are held: the recursions end, by the number of edges and the decorations of the nodes.
@@ -37,6 +38,12 @@ pub fn constants_may_be_held()
 /// The constants, where nothing is held, are the expectations of the twisted antipode.
 pub fn constants_are_expectations()
     ensures { (ty : Types) (a c : Plain → Weighed) → IsAntipode ty a → IsConstants ty nothing c → (t : Plain) → HasTypes ty t → expectation_terms ty (a t).terms ≡ (c t).terms }
+{}
+
+/// The absolute coefficients of a value add up to at most its mass, where those of each value that is held do.
+pub fn masses_bound_coefficients()
+    ensures antipode { (ty : Types) (a : Plain → Weighed) → IsAntipode ty a → (t : Plain) → HasTypes ty t → IsWithinMass (a t) }
+    ensures constants { (ty : Types) (held : Plain → Option Weighed) (c : Plain → Weighed) → ((t : Plain) (w : Weighed) → held t ≡ Some w → IsWithinMass w) → IsConstants ty held c → (t : Plain) → HasTypes ty t → IsWithinMass (c t) }
 {}
 
 /// No mass of the twisted antipode is 0, so one that is out of range makes the masses of all trees above it so.
