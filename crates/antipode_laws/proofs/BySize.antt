@@ -1,5 +1,5 @@
 -- Induction on the number of edges and then on the sum of the decorations of the nodes.
-use Rattle.std.proofs.Common.{◌≡◌, ℕ, zero, suc, ◌<◌, ◌⊎◌, inl, inr, arith}
+use Rattle.std.proofs.Common.{ℕ, zero, suc, ◌<◌, inl, inr, arith}
 use Rattle.plain_trees.specs.Plain.{Plain, edge_count_of}
 use Rattle.cutting_sizes.specs.Bounds.{IsSmaller}
 use Rattle.cutting_sizes.specs.Sizes.{node_sum}

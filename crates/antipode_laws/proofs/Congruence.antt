@@ -1,5 +1,5 @@
 -- The right side of the recursion depends on the values of the trees in the forests alone.
-use Rattle.std.proofs.Common.{◌≡◌, ℕ, pos, neg_ℤ, Bool, true, false, List, [], ◌∷◌, ◌++◌, map, flat_map, if◌then◌else◌, refl, sym, ap, ◌∙◌, Option, Some, None}
+use Rattle.std.proofs.Common.{◌≡◌, ℕ, pos, neg_ℤ, List, [], ◌∷◌, ◌++◌, map, if◌then◌else◌, refl, ap, ◌∙◌, Option, Some, None}
 use Rattle.std.specs.List.{AllByRecursion}
 use Rattle.exact_sums.specs.Saturating.{overflow, saturating_sum, saturating_product, saturating_times}
 use Rattle.degree_numbers.specs.declared.types.Types.{Types}
@@ -10,7 +10,7 @@ use Rattle.plain_trees.specs.Coproducts.{Extracted, extraction_terms}
 use Rattle.symbol_polys.specs.Polynomials.{PlainTerm, times_all}
 use Rattle.symbol_polys.specs.Products.{products}
 use Rattle.cutting_sizes.specs.Bounds.{IsSmaller}
-use Rattle.antipode_laws.specs.Weighed.{Weighed, unit, has_terms, forest_terms, forest_mass, negated, negated_sum, term_mass, mass_sum}
+use Rattle.antipode_laws.specs.Weighed.{Weighed, unit, has_terms, forest_terms, forest_mass, negated, negated_sum, term_mass}
 use Rattle.antipode_laws.specs.Antipode.{other_terms, are_in_range, from_smaller, value_at}
 use Rattle.antipode_laws.proofs.OtherTerms.{IsPart, parts_of_others}
 

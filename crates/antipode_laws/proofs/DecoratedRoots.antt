@@ -1,6 +1,6 @@
 -- A tree with a decoration at its root has in each term a tree that has one.
-use Rattle.std.proofs.Common.{◌≡◌, ℕ, ◌+◌, ◌-◌, ◌==◌, ◌⊎◌, inl, inr, Bool, true, false, cond, not, ◌&&◌, ◌||◌, List, [], ◌∷◌, if◌then◌else◌, refl, sym, ap, ◌∙◌, subst, arith}
-use Rattle.std.specs.List.{list_any, list_all}
+use Rattle.std.proofs.Common.{◌≡◌, ℕ, ◌+◌, ◌==◌, inl, inr, Bool, true, false, cond, not, ◌&&◌, ◌||◌, List, [], ◌∷◌, if◌then◌else◌, refl, sym, ap, ◌∙◌, subst, arith}
+use Rattle.std.specs.List.{list_any}
 use Rattle.std.specs.Ordering.{is_gt}
 use Rattle.std.proofs.lemmas.Bool.Decides.{nat_tests}
 use Rattle.ordered_lists.specs.Members.{IsIn}
@@ -9,15 +9,13 @@ use Rattle.degree_numbers.specs.declared.types.Types.{Types}
 use Rattle.degree_numbers.specs.Multi.{is_zero, plus_of, minus_of}
 use Rattle.plain_trees.specs.Plain.{Plain, bare, graft, root_of}
 use Rattle.plain_trees.specs.Canon.{Planted, planted_order, with_edge, canon}
-use Rattle.plain_trees.specs.Coproducts.{Extracted, extraction_bound, is_extracted, canon_forest, extraction_terms}
-use Rattle.tree_cuttings.specs.Roots.{raised, joined, has_edge}
+use Rattle.plain_trees.specs.Coproducts.{Extracted, extraction_bound, is_extracted, extraction_terms}
+use Rattle.tree_cuttings.specs.Roots.{raised, joined}
 use Rattle.tree_cuttings.specs.Entries.{Entry, forest_of}
-use Rattle.tree_cuttings.specs.Terms.{extracted_entry}
 use Rattle.cutting_sizes.proofs.Made.{IsMade, taken, idle, whole, inside, over_idle, over_component, IsClosed, plus-minus}
-use Rattle.cutting_sizes.proofs.AddsUp.{no_edge}
 use Rattle.cutting_sizes.proofs.TermSums.{extraction_entry}
 use Rattle.antipode_laws.specs.Inheritance.{has_some, is_decorated}
-use Rattle.antipode_laws.proofs.SomeTree.{or_left, or_right, some-canon}
+use Rattle.antipode_laws.proofs.SomeTree.{or_left, some-canon}
 
 and_parts : (a b : Bool) → a && b ≡ true → (a ≡ true) × (b ≡ true)
 and_parts true b h = (refl, h)

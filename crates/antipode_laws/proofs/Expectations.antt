@@ -1,10 +1,7 @@
 -- The constants are the expectations of the twisted antipode.
-use Rattle.std.proofs.Common.{◌≡◌, ℕ, zero, suc, ◌+◌, ◌-◌, ◌%◌, ◌==◌, get_or, pos, neg_ℤ, Bool, true, false, cond, not, ◌&&◌, ◌||◌, List, [], ◌∷◌, ◌++◌, map, flat_map, length, refl, sym, ap, ◌∙◌, subst, arith, slice_index, Option, Some, None}
+use Rattle.std.proofs.Common.{◌≡◌, ℕ, zero, suc, ◌-◌, ◌%◌, ◌==◌, pos, neg_ℤ, true, false, cond, not, ◌||◌, List, [], ◌∷◌, ◌++◌, length, refl, sym, ap, ◌∙◌, subst, slice_index, None}
 use Rattle.std.specs.List.{AllByRecursion, list_any}
-use Rattle.ordered_lists.specs.Members.{IsIn}
-use Rattle.ordered_lists.proofs.Members.{in_map}
 use Rattle.degree_numbers.specs.declared.types.Types.{Types}
-use Rattle.degree_numbers.specs.Multi.{is_zero}
 use Rattle.plain_trees.specs.Plain.{Plain, bare, graft}
 use Rattle.plain_trees.specs.Degree.{HasTypes, is_empty_tree}
 use Rattle.plain_trees.specs.Coproducts.{Extracted}
@@ -12,9 +9,8 @@ use Rattle.symbol_polys.specs.Symbols.{tree, expectation}
 use Rattle.symbol_polys.specs.Polynomials.{PlainTerm, times_all}
 use Rattle.symbol_polys.specs.Products.{products}
 use Rattle.symbol_polys.proofs.Entries.{all_zero}
-use Rattle.gaussian_pairings.specs.Vanishing.{some_below, has_odd_group, has_odd_direction, noises_in, sum_in, entry_in, vanishes}
+use Rattle.gaussian_pairings.specs.Vanishing.{some_below, has_odd_direction, entry_in, vanishes}
 use Rattle.tree_cuttings.proofs.Positive.{all_append}
-use Rattle.cutting_sizes.specs.Bounds.{IsSmaller}
 use Rattle.antipode_laws.specs.Weighed.{Weighed, one, unit, symbol_term, forest_terms, negated, negated_sum}
 use Rattle.antipode_laws.specs.Antipode.{other_terms, value_at, from_smaller, tree_terms, nothing, IsAntipode}
 use Rattle.antipode_laws.specs.Constants.{expected, IsConstants, expectation_terms}
@@ -110,8 +106,8 @@ module _ (ty : Types) (a c : Plain → Weighed) where
       by_size (λ t. HasTypes ty t → IsExpected t)
       (λ t below typed.
       let parts =
-          all_weaken (λ (x : Extracted × ℕ). AllByRecursion (IsPart ty t) x.0.0) (λ (x : Extracted × ℕ). AllByRecursion IsExpected x.0.0) (other_terms ty t)
-          (λ x h. all_weaken (IsPart ty t) IsExpected x.0.0 (λ f p. below f p.smaller p.typed) h) (parts_of_others ty t typed) in
+      all_weaken (λ (x : Extracted × ℕ). AllByRecursion (IsPart ty t) x.0.0) (λ (x : Extracted × ℕ). AllByRecursion IsExpected x.0.0) (other_terms ty t)
+      (λ x h. all_weaken (IsPart ty t) IsExpected x.0.0 (λ f p. below f p.smaller p.typed) h) (parts_of_others ty t typed) in
       record {
         over = subst_over t (sym (solves t typed)) (over-value t parts);
         is = ap (λ (w : Weighed). expectation_terms ty w.terms) (solves t typed) ∙ expected-value t parts ∙ ap (λ (w : Weighed). w.terms) (sym (also t typed));

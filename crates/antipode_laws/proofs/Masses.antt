@@ -1,12 +1,12 @@
 -- Masses of the twisted antipode: none is 0, and one that is out of range makes the masses above it so.
-use Rattle.std.proofs.Common.{◌≡◌, ℕ, zero, suc, ◌+◌, ◌*◌, ◌<◌, ◌≤◌, ◌⊎◌, inl, inr, min, sum, Bool, true, false, cond, fold, List, [], ◌∷◌, map, refl, sym, ap, ◌∙◌, subst, arith, mul-pos, Option, None}
+use Rattle.std.proofs.Common.{◌≡◌, ℕ, zero, suc, ◌*◌, ◌<◌, ◌≤◌, inl, inr, sum, true, false, cond, fold, List, [], ◌∷◌, map, refl, sym, ap, ◌∙◌, subst, arith, mul-pos, None}
 use Rattle.std.specs.List.{AllByRecursion}
 use Rattle.ordered_lists.specs.Members.{IsIn}
 use Rattle.ordered_lists.proofs.Members.{in_map}
 use Rattle.exact_sums.specs.Saturating.{overflow, saturated, saturating_times, saturating_sum, saturating_product, product}
 use Rattle.exact_sums.proofs.SaturatingLaws.{saturated_mul_left, saturating_sum_is, product_cons}
 use Rattle.degree_numbers.specs.declared.types.Types.{Types}
-use Rattle.plain_trees.specs.Plain.{Plain, edge_count_of}
+use Rattle.plain_trees.specs.Plain.{Plain}
 use Rattle.plain_trees.specs.Degree.{HasTypes, is_empty_tree, empty_tree}
 use Rattle.plain_trees.proofs.DegreeLaws.{empty_is}
 use Rattle.plain_trees.specs.Coproducts.{Extracted, extraction_terms}
@@ -15,11 +15,10 @@ use Rattle.tree_cuttings.proofs.Positive.{all_mapped}
 use Rattle.degree_numbers.proofs.TypeBounds.{all_weaker}
 use Rattle.symbol_polys.specs.Symbols.{tree}
 use Rattle.cutting_sizes.specs.Bounds.{IsSmaller}
-use Rattle.cutting_sizes.specs.Sizes.{node_sum}
 use Rattle.cutting_sizes.proofs.Counts.{sum-cons}
 use Rattle.antipode_laws.specs.Weighed.{Weighed, one, unit, symbol_term, has_terms, forest_mass, term_mass, mass_sum}
-use Rattle.antipode_laws.specs.Antipode.{other_terms, are_in_range, from_smaller, value_at, tree_terms, nothing, IsAntipode}
-use Rattle.antipode_laws.proofs.OtherTerms.{IsPart, from_other, parts_of_term, member_of, all_members}
+use Rattle.antipode_laws.specs.Antipode.{other_terms, are_in_range, from_smaller, value_at, tree_terms, IsAntipode}
+use Rattle.antipode_laws.proofs.OtherTerms.{IsPart, from_other, parts_of_term, member_of}
 use Rattle.antipode_laws.proofs.UncutTerm.{uncut_term}
 
 member_most : (n : ℕ) (ns : List ℕ) → IsIn n ns → n ≤ sum ns
@@ -124,6 +123,6 @@ module _ (ty : Types) (a : Plain → Weighed) where
   pub overflow_above : IsAntipode ty a → (t : Plain) (x : Extracted × ℕ) (f : Plain) → HasTypes ty t → IsIn x (other_terms ty t) → IsIn f x.0.0 → overflow ≤ (a f).mass → overflow ≤ (a t).mass
   overflow_above solves t x f typed listed i h =
       let value : overflow ≤ (cond (is_empty_tree t) unit (from_smaller ty tree_terms a t)).mass =
-          subst (λ b. overflow ≤ (cond b unit (from_smaller ty tree_terms a t)).mass) (sym (not_empty t x f typed listed i))
-          (elim (are_in_range (extraction_terms ty t)) as (λ b. overflow ≤ cond b (mass_sum tree_terms a (other_terms ty t)) overflow) [ true ↦ sum_large solves t x f typed listed i h | false ↦ omega arith ]) in
+      subst (λ b. overflow ≤ (cond b unit (from_smaller ty tree_terms a t)).mass) (sym (not_empty t x f typed listed i))
+      (elim (are_in_range (extraction_terms ty t)) as (λ b. overflow ≤ cond b (mass_sum tree_terms a (other_terms ty t)) overflow) [ true ↦ sum_large solves t x f typed listed i h | false ↦ omega arith ]) in
       subst (λ (w : Weighed). overflow ≤ w.mass) (sym (solves t typed)) value

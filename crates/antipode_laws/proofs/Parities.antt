@@ -1,8 +1,8 @@
 -- A tree that is odd in a group of noises or in a direction has in each term a tree that is so.
-use Rattle.std.proofs.Common.{◌≡◌, ℕ, ◌+◌, ◌*◌, ◌-◌, ◌%◌, ◌==◌, ◌&&◌, Bool, true, false, cond, List, slice_index, refl, sym, ap, ◌∙◌, arith}
+use Rattle.std.proofs.Common.{◌≡◌, ℕ, ◌+◌, ◌*◌, ◌-◌, ◌%◌, ◌==◌, ◌&&◌, Bool, true, slice_index, refl, ap, ◌∙◌, arith}
 use Rattle.std.proofs.lemmas.Bool.Decides.{nat_tests}
 use Rattle.ordered_lists.specs.Members.{IsIn}
-use Rattle.exact_sums.specs.Sums.{total, counted_if}
+use Rattle.exact_sums.specs.Sums.{total}
 use Rattle.exact_sums.specs.Keyed.{keys}
 use Rattle.exact_sums.proofs.SumLaws.{total_ext}
 use Rattle.degree_numbers.specs.declared.types.Types.{Types}
@@ -11,7 +11,7 @@ use Rattle.plain_trees.specs.Plain.{Plain, bare, graft}
 use Rattle.plain_trees.specs.Coproducts.{Extracted, extraction_terms}
 use Rattle.gaussian_pairings.specs.Vanishing.{is_noise_type, noises_in, sum_in}
 use Rattle.gaussian_pairings.proofs.NoiseCounts.{noises_graft}
-use Rattle.cutting_sizes.specs.Sizes.{edges_of, direction_sum, AddUp}
+use Rattle.cutting_sizes.specs.Sizes.{edges_of, direction_sum}
 use Rattle.cutting_sizes.proofs.Counts.{types_add_up, directions_add_up}
 use Rattle.cutting_sizes.proofs.TermSums.{extraction_adds_up}
 use Rattle.antipode_laws.specs.Inheritance.{has_some, has_odd, has_odd_sum}

@@ -1,22 +1,21 @@
 -- The coefficients of a value add up, without signs, to at most its mass.
-use Rattle.std.proofs.Common.{◌≡◌, ℕ, ◌+◌, ◌*◌, ◌<◌, ◌≤◌, ◌⊎◌, inl, inr, pos, neg_ℤ, sum, Bool, true, false, cond, if◌then◌else◌, unsigned_abs, List, [], ◌∷◌, ◌++◌, map, refl, sym, ap, ◌∙◌, subst, arith, Option, Some, None}
+use Rattle.std.proofs.Common.{◌≡◌, ℕ, ◌+◌, ◌*◌, ◌≤◌, pos, neg_ℤ, sum, true, false, cond, unsigned_abs, List, [], ◌∷◌, map, refl, sym, ap, ◌∙◌, subst, arith, Option, Some, None}
 use Rattle.std.specs.List.{AllByRecursion}
 use Rattle.std.proofs.lemmas.Int.{ints}
-use Rattle.exact_sums.specs.Saturating.{overflow, saturated, saturating_times, saturating_sum, saturating_product, product}
+use Rattle.exact_sums.specs.Saturating.{overflow, saturated, saturating_times, product}
 use Rattle.exact_sums.proofs.SaturatingLaws.{saturated_mul_left, saturated_mul_right, saturating_sum_is, product_cons}
 use Rattle.degree_numbers.specs.declared.types.Types.{Types}
 use Rattle.degree_numbers.proofs.TypeBounds.{all_weaker}
 use Rattle.plain_trees.specs.Plain.{Plain}
 use Rattle.plain_trees.specs.Degree.{HasTypes, is_empty_tree}
 use Rattle.plain_trees.specs.Coproducts.{Extracted, extraction_terms}
-use Rattle.symbol_polys.specs.Polynomials.{PlainTerm, size_of, times_all}
+use Rattle.symbol_polys.specs.Polynomials.{PlainTerm, size_of}
 use Rattle.symbol_polys.specs.Products.{products}
 use Rattle.symbol_polys.specs.Symbols.{tree, expectation}
 use Rattle.symbol_polys.proofs.AddLaws.{size_of-append}
 use Rattle.symbol_polys.proofs.PolyLaws.{size_of-times_all}
 use Rattle.symbol_polys.proofs.ProductLaws.{size_of-products}
 use Rattle.gaussian_pairings.specs.Vanishing.{vanishes}
-use Rattle.cutting_sizes.specs.Bounds.{IsSmaller}
 use Rattle.cutting_sizes.proofs.Counts.{sum-cons}
 use Rattle.antipode_laws.specs.Weighed.{Weighed, one, unit, symbol_term, has_terms, forest_terms, forest_mass, negated, negated_sum, term_mass, mass_sum}
 use Rattle.antipode_laws.specs.Antipode.{other_terms, are_in_range, from_smaller, value_at, tree_terms, IsSolution}

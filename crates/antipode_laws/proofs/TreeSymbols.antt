@@ -1,16 +1,15 @@
 -- Sums over symbols of trees alone: their products, and what expectation makes of them.
-use Rattle.std.proofs.Common.{◌≡◌, ℤ, ◌*ℤ◌, Bool, true, false, cond, ◌||◌, List, [], ◌∷◌, ◌++◌, map, flat_map, if◌then◌else◌, refl, sym, ap, ◌∙◌, subst}
-use Rattle.std.specs.List.{AllByRecursion, list_any}
+use Rattle.std.proofs.Common.{◌≡◌, ℤ, ◌*ℤ◌, Bool, true, false, cond, ◌||◌, List, [], ◌∷◌, ◌++◌, map, refl, sym, ap, ◌∙◌, subst}
+use Rattle.std.specs.List.{AllByRecursion}
 use Rattle.std.specs.Ordering.{is_gt}
 use Rattle.std.proofs.lemmas.List.{map-append}
 use Rattle.std.proofs.lemmas.Grind.{flat_map-append}
 use Rattle.degree_numbers.specs.declared.types.Types.{Types}
 use Rattle.plain_trees.specs.Plain.{Plain}
-use Rattle.symbol_polys.specs.Symbols.{PlainSymbol, parameter, variable, noise, tree, expectation, symbol_order}
+use Rattle.symbol_polys.specs.Symbols.{PlainSymbol, tree, expectation, symbol_order}
 use Rattle.symbol_polys.specs.Polynomials.{PlainTerm, times, times_all}
 use Rattle.symbol_polys.specs.Products.{with_symbol, monomial_product, term_product, products_with, products}
 use Rattle.symbol_polys.proofs.MonomialLaws.{all-monomial_product}
-use Rattle.symbol_polys.proofs.ProductRules.{products-append}
 use Rattle.tree_cuttings.proofs.Positive.{all_append}
 use Rattle.antipode_laws.specs.Constants.{expected_symbol, is_vanishing, has_vanishing, expectation_of, expectation_terms}
 

@@ -1,12 +1,11 @@
 -- The term of the cutting that cuts nothing: no tree in the forest, and the tree itself as the quotient.
-use Rattle.std.proofs.Common.{◌≡◌, ℕ, ◌+◌, ◌⊎◌, inl, inr, Bool, true, false, cond, not, List, [], ◌∷◌, ◌++◌, map, filter, refl, sym, ap, ◌∙◌, subst, Ordering, Less, Equal, Greater}
+use Rattle.std.proofs.Common.{◌≡◌, ℕ, ◌+◌, inl, inr, Bool, true, false, cond, not, List, [], ◌∷◌, ◌++◌, map, filter, refl, sym, ap, ◌∙◌, subst, Ordering, Less, Equal, Greater}
 use Rattle.std.specs.Ordering.{is_eq, is_gt}
 use Rattle.std.proofs.lemmas.Map.Lookups.{CmpEqualImpliesEq}
 use Rattle.ordered_lists.specs.Members.{IsIn}
 use Rattle.ordered_lists.proofs.Members.{in_map, from_map}
 use Rattle.exact_sums.specs.Keyed.{with_term, collected, keys}
 use Rattle.degree_numbers.specs.declared.types.Types.{Types}
-use Rattle.degree_numbers.specs.Multi.{plus_of}
 use Rattle.plain_trees.specs.Plain.{Plain, bare, graft}
 use Rattle.plain_trees.specs.Canon.{canon}
 use Rattle.plain_trees.specs.Degree.{empty_tree}
@@ -101,9 +100,9 @@ uncut_key ty t =
     let w = extraction_bound ty t in
     let u = uncut good w t in
     let key : extracted_entry u.entry ≡ nothing_cut t =
-        ap (λ (fs : List Plain). pair_of (canon_forest fs) (canon u.entry.quotient)) (forest_none good w u.entry u.part u.above) ∙ ap (λ (q : Plain). pair_of [] (canon q)) u.quotient in
+    ap (λ (fs : List Plain). pair_of (canon_forest fs) (canon u.entry.quotient)) (forest_none good w u.entry u.part u.above) ∙ ap (λ (q : Plain). pair_of [] (canon q)) u.quotient in
     let term : IsIn (extracted_entry u.entry, u.entry.coefficient) (map (λ e. (extracted_entry e, e.coefficient)) (extraction_entries ty t)) =
-        in_map (λ (e : Entry). (extracted_entry e, e.coefficient)) u.entry (extraction_entries ty t) (close_idle good w t u.entry u.listed u.part) in
+    in_map (λ (e : Entry). (extracted_entry e, e.coefficient)) u.entry (extraction_entries ty t) (close_idle good w t u.entry u.listed u.part) in
     let listed = in_map (λ (x : Extracted × ℕ). x.0) (extracted_entry u.entry, u.entry.coefficient) (map (λ e. (extracted_entry e, e.coefficient)) (extraction_entries ty t)) term in
     subst (λ (k : Extracted). IsIn k (keys (extraction_terms ty t))) key
     (subst (λ (ts : List (Extracted × ℕ)). IsIn (extracted_entry u.entry) (keys ts)) (sym (extraction_by_recursion ty t))
@@ -111,6 +110,9 @@ uncut_key ty t =
 
 pub uncut_term : (ty : Types) (t : Plain) → (x : Extracted × ℕ) × IsIn x (other_terms ty t) × (x.0 ≡ nothing_cut t)
 uncut_term ty t =
-    let from = from_map (λ (x : Extracted × ℕ). x.0) (nothing_cut t) (extraction_terms ty t) (uncut_key ty t) in
-    (from.0, in_filter (λ (x : Extracted × ℕ). not (is_eq (extracted_order x.0 (canon t ∷ [], empty_tree)))) from.0 (extraction_terms ty t) from.1
-    (ap (λ (k : Extracted). not (is_eq (extracted_order k (canon t ∷ [], empty_tree)))) from.2), from.2)
+    let from = from_map (λ (x : Extracted × ℕ). x.0) (nothing_cut t) (extraction_terms ty t) (uncut_key ty t) in (
+      from.0,
+      in_filter (λ (x : Extracted × ℕ). not (is_eq (extracted_order x.0 (canon t ∷ [], empty_tree)))) from.0 (extraction_terms ty t) from.1
+          (ap (λ (k : Extracted). not (is_eq (extracted_order k (canon t ∷ [], empty_tree)))) from.2),
+      from.2,
+    )

@@ -1,12 +1,11 @@
 -- A tree that vanishes has in each term a tree that vanishes.
-use Rattle.std.proofs.Common.{◌≡◌, ℕ, zero, suc, ◌<◌, ◌⊎◌, inl, inr, Bool, true, false, not, ◌||◌, List, [], ◌∷◌, length, refl, sym, ap, ◌∙◌, arith}
+use Rattle.std.proofs.Common.{◌≡◌, ℕ, zero, suc, ◌<◌, ◌⊎◌, inl, inr, Bool, true, ◌||◌, List, [], ◌∷◌, length, refl, sym, ap, ◌∙◌, arith}
 use Rattle.std.specs.List.{list_any}
 use Rattle.std.proofs.lemmas.Bool.{cases_lt}
 use Rattle.ordered_lists.specs.Members.{IsIn}
 use Rattle.exact_sums.specs.Keyed.{keys}
 use Rattle.degree_numbers.specs.declared.types.Types.{Types}
-use Rattle.degree_numbers.specs.Multi.{is_zero}
-use Rattle.plain_trees.specs.Plain.{Plain, root_of}
+use Rattle.plain_trees.specs.Plain.{Plain}
 use Rattle.plain_trees.specs.Coproducts.{Extracted, extraction_terms}
 use Rattle.gaussian_pairings.specs.Vanishing.{some_below, has_odd_group, has_odd_direction, is_odd, has_integrated, vanishes}
 use Rattle.antipode_laws.specs.Inheritance.{has_some, is_decorated, has_odd, has_odd_sum}

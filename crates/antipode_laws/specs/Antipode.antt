@@ -10,7 +10,7 @@
 --   tree_terms q == the quotient itself as a symbol; the empty tree counts as 1
 --   nothing == no tree has a value that is held
 --   IsAntipode ty a == a gives each tree its twisted antipode, with its mass
-use Rattle.std.specs.Prelude.{◌≡◌, ℕ, nat_lt, Bool, true, not, if◌then◌else◌, List, [], ◌∷◌, filter, Option, Some, None}
+use Rattle.std.specs.Prelude.{◌≡◌, ℕ, nat_lt, Bool, not, if◌then◌else◌, List, [], ◌∷◌, filter, Option, Some, None}
 use Rattle.std.specs.List.{list_all}
 use Rattle.std.specs.Ordering.{is_eq}
 use Rattle.exact_sums.specs.Saturating.{overflow}

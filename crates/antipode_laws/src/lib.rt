@@ -4,6 +4,6 @@
 mod laws;
 
 pub use laws::{
-    antipode_masses, constants_are_expectations, constants_may_be_held,
-    masses_bound_coefficients, solutions_are_unique, solutions_exist, sums_by_runs, vanishing_trees,
+    antipode_masses, constants_are_expectations, constants_may_be_held, masses_bound_coefficients,
+    solutions_are_unique, solutions_exist, sums_by_runs, vanishing_trees,
 };

@@ -1,4 +1,3 @@
-use Rattle.std.proofs.Common.{Some, None}
 use Rattle.antipode_laws.specs.Antipode.{tree_terms, nothing}
 use Rattle.antipode_laws.specs.Constants.{expected}
 use Rattle.antipode_laws.proofs.SizeLaws.{within_mass, tree_single, expected_single}
