@@ -1,0 +1,6 @@
+pub mod EqualKeys
+pub mod Grown
+pub mod Lines
+pub mod Memos
+pub mod Orders
+pub mod TermsFound

@@ -1,0 +1,4 @@
+pub mod Finished
+pub mod Memo
+pub mod Sorted
+pub mod Terms
