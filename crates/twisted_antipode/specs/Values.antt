@@ -1,0 +1,39 @@
+-- Values as the program makes them: a polynomial with its mass, or only that the mass is out of range.
+--   IsPolyOf w p == the polynomial p has the coefficients and the mass of w
+--   IsValueOf w v == v stands for w: it is such a polynomial, or the mass of w is out of range
+--   IsKept v == where v is a polynomial, it is one with its mass
+--   sum_of w u, product_of w u, negative_of w == the sum and the product of two values, and minus a value
+--   multiple_of c w == c times a value
+use Rattle.std.specs.Prelude.{◌≡◌, ◌≤◌, ℕ, pos, neg_ℤ, ◌++◌, ⊤}
+use Rattle.exact_sums.specs.Saturating.{overflow, saturating_plus, saturating_times}
+use Rattle.symbol_polys.specs.declared.poly.Poly.{Poly}
+use Rattle.symbol_polys.specs.Polynomials.{HaveSameCoefficients, times_all}
+use Rattle.symbol_polys.specs.Products.{products}
+use Rattle.symbol_polys.specs.View.{terms_of, IsPoly}
+use Rattle.antipode_laws.specs.Weighed.{Weighed}
+use Rattle.twisted_antipode.specs.declared.value.Value.{Value}
+use Rattle.twisted_antipode.specs.declared.value.Value.TheVariants.{Sum, TooLarge}
+
+pub record IsPolyOf (w : Weighed) (p : Poly) : Type 0 where
+  pub coefficients : HaveSameCoefficients (terms_of p.terms) w.terms
+  pub mass : p.mass ≡ pos w.mass
+
+abbrev pub IsValueOf : Weighed → Value → Type 0
+IsValueOf w (Sum p) = IsPolyOf w p
+IsValueOf w TooLarge = overflow ≤ w.mass
+
+abbrev pub IsKept : Value → Type 0
+IsKept (Sum p) = IsPoly p
+IsKept TooLarge = ⊤
+
+abbrev pub sum_of : Weighed → Weighed → Weighed
+sum_of w u = record { terms = w.terms ++ u.terms; mass = saturating_plus w.mass u.mass }
+
+abbrev pub product_of : Weighed → Weighed → Weighed
+product_of w u = record { terms = products w.terms u.terms; mass = saturating_times w.mass u.mass }
+
+abbrev pub multiple_of : ℕ → Weighed → Weighed
+multiple_of c w = record { terms = times_all (pos c) w.terms; mass = saturating_times c w.mass }
+
+abbrev pub negative_of : Weighed → Weighed
+negative_of w = record { terms = times_all (neg_ℤ (pos 1)) w.terms; mass = w.mass }

@@ -1,0 +1,7 @@
+//! The twisted antipode, and renormalisation constants.
+#![tactic(auto)]
+
+mod error;
+mod value;
+
+pub use error::{AntipodeError, Quantity};

@@ -1,0 +1,45 @@
+// Values of trees, and their arithmetic. A value whose mass is out of range is one all the same: times 0 it is 0.
+ghost use Rattle.std.specs.Prelude.{◌≡◌, ◌<◌, pos, IfOk, IsOkUnless, unsigned_abs};
+ghost use Rattle.exact_sums.specs.Saturating.{overflow};
+ghost use Rattle.symbol_polys.specs.View.{IsPoly};
+ghost use Rattle.antipode_laws.specs.Weighed.{Weighed, unit};
+ghost use Rattle.twisted_antipode.specs.Values.{IsValueOf, IsKept, sum_of, product_of, multiple_of, negative_of};
+
+use std::alloc::Global;
+use symbol_polys::{Poly, PolyError, add, mul, one, scale, zero};
+
+/// The value of a tree, or of a sum of products.
+#[derive(Drop)]
+pub(crate) enum Value {
+    /// A polynomial with its mass.
+    Sum(Poly),
+    /// The mass passes 2^127-1.
+    TooLarge,
+}
+
+/// The value of the empty forest.
+pub(crate) fn unit(alloc: Global) -> Result<Value, PolyError>
+    ensures kept { IfOk result IsKept }
+    ensures value { IfOk result (IsValueOf unit) }
+    ensures memory { IsOkUnless result PolyError.Memory }
+{
+    Ok(Value::Sum(one(alloc)?))
+}
+
+/// The sum of two values.
+pub(crate) fn sum(alloc: Global, a: &Value, b: &Value) -> Result<Value, PolyError>
+    requires a { IsKept a.now }
+    requires b { IsKept b.now }
+    ensures kept { IfOk result IsKept }
+    ensures value { IfOk result (λ v. (w u : Weighed) → IsValueOf w a.now → IsValueOf u b.now → IsValueOf (sum_of w u) v) }
+    ensures memory { IsOkUnless result PolyError.Memory }
+{
+    match (a, b) {
+        (Value::Sum(f), Value::Sum(g)) => match add(alloc, f, g) {
+            Ok(p) => Ok(Value::Sum(p)),
+            Err(PolyError::CoefficientTooLarge) => Ok(Value::TooLarge),
+            Err(e) => Err(e),
+        },
+        _ => Ok(Value::TooLarge),
+    }
+}
