@@ -41,7 +41,7 @@ product_above : (ms : List ℕ) → AllByRecursion (λ m. 0 < m) ms → 0 < prod
 product_above [] h = omega arith
 product_above (m ∷ ms) h = rw (product_cons m ms) (mul-pos h.0 (product_above ms h.1))
 
-times_least : (n m k : ℕ) → n ≤ m → 0 < k → n ≤ m * k
+pub times_least : (n m k : ℕ) → n ≤ m → 0 < k → n ≤ m * k
 times_least n m zero l p = absurd (omega (arith, p))
 times_least n m (suc k) l p = omega (arith, l)
 

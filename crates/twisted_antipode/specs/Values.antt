@@ -3,8 +3,7 @@
 --   IsValueOf w v == v stands for w: it is such a polynomial, or the mass of w is out of range
 --   IsKept v == where v is a polynomial, it is one with its mass
 --   sum_of w u, product_of w u, negative_of w == the sum and the product of two values, and minus a value
---   multiple_of c w == c times a value
-use Rattle.std.specs.Prelude.{◌≡◌, ◌≤◌, ℕ, pos, neg_ℤ, ◌++◌, ⊤}
+use Rattle.std.specs.Prelude.{◌≡◌, ◌≤◌, pos, neg_ℤ, ◌++◌, ⊤}
 use Rattle.exact_sums.specs.Saturating.{overflow, saturating_plus, saturating_times}
 use Rattle.symbol_polys.specs.declared.poly.Poly.{Poly}
 use Rattle.symbol_polys.specs.Polynomials.{HaveSameCoefficients, times_all}
@@ -31,9 +30,6 @@ sum_of w u = record { terms = w.terms ++ u.terms; mass = saturating_plus w.mass 
 
 abbrev pub product_of : Weighed → Weighed → Weighed
 product_of w u = record { terms = products w.terms u.terms; mass = saturating_times w.mass u.mass }
-
-abbrev pub multiple_of : ℕ → Weighed → Weighed
-multiple_of c w = record { terms = times_all (pos c) w.terms; mass = saturating_times c w.mass }
 
 abbrev pub negative_of : Weighed → Weighed
 negative_of w = record { terms = times_all (neg_ℤ (pos 1)) w.terms; mass = w.mass }
