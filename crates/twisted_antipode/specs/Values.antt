@@ -2,14 +2,16 @@
 --   IsPolyOf w p == the polynomial p has the coefficients and the mass of w
 --   IsValueOf w v == v stands for w: it is such a polynomial, or the mass of w is out of range
 --   IsKept v == where v is a polynomial, it is one with its mass
+--   nothing_value, symbol_value s == the value 0, the value that is a symbol
 --   sum_of w u, product_of w u, negative_of w == the sum and the product of two values, and minus a value
-use Rattle.std.specs.Prelude.{◌≡◌, ◌≤◌, pos, neg_ℤ, ◌++◌, ⊤}
+use Rattle.std.specs.Prelude.{◌≡◌, ◌≤◌, pos, neg_ℤ, [], ◌++◌, ⊤}
 use Rattle.exact_sums.specs.Saturating.{overflow, saturating_plus, saturating_times}
 use Rattle.symbol_polys.specs.declared.poly.Poly.{Poly}
+use Rattle.symbol_polys.specs.Symbols.{PlainSymbol}
 use Rattle.symbol_polys.specs.Polynomials.{HaveSameCoefficients, times_all}
 use Rattle.symbol_polys.specs.Products.{products}
 use Rattle.symbol_polys.specs.View.{terms_of, IsPoly}
-use Rattle.antipode_laws.specs.Weighed.{Weighed}
+use Rattle.antipode_laws.specs.Weighed.{Weighed, symbol_term}
 use Rattle.twisted_antipode.specs.declared.value.Value.{Value}
 use Rattle.twisted_antipode.specs.declared.value.Value.TheVariants.{Sum, TooLarge}
 
@@ -24,6 +26,12 @@ IsValueOf w TooLarge = overflow ≤ w.mass
 abbrev pub IsKept : Value → Type 0
 IsKept (Sum p) = IsPoly p
 IsKept TooLarge = ⊤
+
+abbrev pub nothing_value : Weighed
+nothing_value = record { terms = []; mass = 0 }
+
+abbrev pub symbol_value : PlainSymbol → Weighed
+symbol_value s = record { terms = symbol_term s; mass = 1 }
 
 abbrev pub sum_of : Weighed → Weighed → Weighed
 sum_of w u = record { terms = w.terms ++ u.terms; mass = saturating_plus w.mass u.mass }

@@ -3,6 +3,7 @@ ghost use Rattle.std.specs.Prelude.{◌≡◌};
 ghost use Rattle.twisted_antipode.specs.declared.error.AntipodeError.TheVariants.{Memory};
 
 use std::alloc::AllocError;
+use symbol_polys::PolyError;
 use thiserror::Error;
 use tree_pool::PoolError;
 
@@ -40,6 +41,14 @@ impl From<PoolError> for AntipodeError {
     ghost from_gives = { λ _ e. e ≡ Memory };
 
     fn from(_e: PoolError) -> AntipodeError {
+        AntipodeError::Memory
+    }
+}
+
+impl From<PolyError> for AntipodeError {
+    ghost from_gives = { λ _ e. e ≡ Memory };
+
+    fn from(_e: PolyError) -> AntipodeError {
         AntipodeError::Memory
     }
 }

@@ -2,6 +2,7 @@
 #![tactic(auto)]
 
 mod error;
+mod quotient;
 mod value;
 
 pub use error::{AntipodeError, Quantity};
