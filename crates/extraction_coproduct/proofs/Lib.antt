@@ -1,4 +1,4 @@
-pub mod EqualKeys
+pub mod Coproducts
 pub mod Grown
 pub mod Lines
 pub mod Memos

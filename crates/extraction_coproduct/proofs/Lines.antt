@@ -64,6 +64,7 @@ module _ (g : GroveContent) where
   pub lines_permuted : (xs ys : List (ExtractKey × ℕ)) → IsPermutation xs ys → AreExtractLines g xs → AreExtractLines g ys
   lines_permuted xs ys p a =
       recursion_from_All (IsLine g) ys (All-permutation (IsLine g) xs ys p (All-from_recursion (IsLine g) xs a))
+
   sums_permuted : (xs ys : List (ExtractKey × ℕ)) → IsPermutation xs ys → AreSameExtracted (extracted_terms_in g ys) (extracted_terms_in g xs)
   sums_permuted xs ys p = λ k.
       let f : ExtractKey × ℕ → Extracted × ℕ = λ l. (extracted_in g l.0, l.1) in

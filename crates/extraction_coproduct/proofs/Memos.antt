@@ -32,9 +32,9 @@ module _ (test : TreeId → Bool) (i : ℕ) (decides : (k : TreeId) → Decides 
       (elim (test x.0) as (λ b. test x.0 ≡ b → cond b (Some x.1) (lookup test xs) ≡ None → ⊥) [
         | true ↦ λ t n. absurd cc
         | false ↦ λ t n. elim h [
-            | inl here ↦ let passes = (decides x.0).1 (sym here) in absurd cc
-            | inr there ↦ missing_in xs n there
-          ]
+          | inl here ↦ let passes = (decides x.0).1 (sym here) in absurd cc
+          | inr there ↦ missing_in xs n there
+        ]
       ]) refl e
 
   pub lookup-missing : (es : List Kept) → (IsIn i (numbers_in (memo_of es)) → ⊥) → lookup test es ≡ None

@@ -1,7 +1,5 @@
 -- Terms that are made of lines.
 use Rattle.std.proofs.Common.{◌≡◌, ℕ, ℤ, pos, ◌+◌, ◌<◌, List, [], ◌∷◌, ◌++◌, map, drop, length, get_or, refl, sym, ap, ◌∙◌, append_assoc, arith}
-use Rattle.std.proofs.lemmas.Grind.{common_steps}
-use Rattle.std.proofs.lemmas.List.Elements.{All-from_recursion}
 use Rattle.exact_sums.specs.Saturating.{overflow}
 use Rattle.exact_sums.specs.Keyed.{rekeyed, saturated_terms}
 use Rattle.plain_trees.specs.Coproducts.{Extracted}
@@ -9,6 +7,7 @@ use Rattle.cutting_tables.proofs.Collecting.{values_in_range, range_of_values}
 use Rattle.pooled_cuttings.specs.declared.ExtractKey.{ExtractKey}
 use Rattle.pooled_cuttings.specs.Groves.{GroveContent}
 use Rattle.pooled_cuttings.specs.Lines.{extracted_in, extracted_terms_in, AreExtractLines}
+use Rattle.pooled_cuttings.proofs.Rows.{cut_at}
 use Rattle.extraction_coproduct.specs.declared.term.ExtractTerm.{ExtractTerm}
 use Rattle.extraction_coproduct.specs.Finished.{coproduct_of, IsTerms}
 use Rattle.extraction_coproduct.specs.Terms.{terms_in, whole_terms, AreKnownTerms, AreInRange, term_of}
@@ -52,12 +51,9 @@ module _ (g : GroveContent) (i : ℕ) (ls : List (ExtractKey × ℕ))
 abbrev Line : Type 0
 Line = ExtractKey × ℕ
 
-lines_left : (ls : List Line) (i : ℕ) (d : Line) → i < length ls → drop i ls ≡ get_or ls i d ∷ drop (i + 1) ls
-lines_left ls i d h = grind (arith, common_steps)
-
 module _ (ls : List Line) (i : ℕ) (l : Line) (within : i < length ls) (at : l ≡ get_or ls i l) where
   cut : drop i ls ≡ l ∷ drop (i + 1) ls
-  cut = lines_left ls i l within ∙ ap (λ (k : Line). k ∷ drop (i + 1) ls) (sym at)
+  cut = cut_at ls i l within at
 
   pub one_term : (ts : List ExtractTerm) → ts ++ map term_of (drop i ls) ≡ map term_of ls →
       (ts ++ term_of l ∷ []) ++ map term_of (drop (i + 1) ls) ≡ map term_of ls
@@ -65,6 +61,3 @@ module _ (ls : List Line) (i : ℕ) (l : Line) (within : i < length ls) (at : l 
 
   pub one_value : l.1 < overflow → (AreInRange (drop i ls) → AreInRange ls) → AreInRange (drop (i + 1) ls) → AreInRange ls
   one_value below h rest = h (rw cut (below, rest))
-
-  pub value_in_range : AreInRange ls → l.1 < overflow
-  value_in_range range = rw at (All-from_recursion (λ (k : Line). k.1 < overflow) ls range i l within)

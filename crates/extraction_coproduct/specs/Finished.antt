@@ -76,5 +76,5 @@ abbrev pub IsCounted : {T E : Type 0} → TablesContent → TablesContent → �
 IsCounted {T} {E} old new id before after result =
     MatchResult result
     (λ (_ : T). IsFinishedNow old new id before after
-        ⊎ (IsIn id old.finished × IsUncounted old new before after))
+    ⊎ (IsIn id old.finished × IsUncounted old new before after))
     (λ (_ : E). IsUncounted old new before after)

@@ -1,6 +1,9 @@
-//! The table of all cuttings of a tree of a grove, of which all components are extracted.
+//! The table of all cuttings of a tree of a grove, of which all components are extracted: a
+//! recursion down the tree.
 #![tactic(auto)]
 
-mod closed;
+mod bounds;
+mod tables;
 
-pub use closed::closed_table;
+pub use bounds::bounds_of;
+pub use tables::closed_table;

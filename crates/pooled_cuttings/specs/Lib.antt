@@ -1,3 +1,4 @@
 pub mod Groves
 pub mod Lines
 pub mod NodeTables
+pub mod Products

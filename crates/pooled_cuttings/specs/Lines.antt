@@ -3,8 +3,9 @@
 --   opened_terms_in, extracted_terms_in, recentred_terms_in == the terms that lines mean
 --   IsOpenKey g k, IsExtractKey g k, IsRightKey c k == the numbers of k are those of trees and
 --       forests that are there
---   AreOpenLines g ls, AreExtractLines g ls, AreRightLines c ls == so are those of all lines, and
---       the coefficients are values that are not 0
+--   IsOpenLine g l, IsExtractLine g l, IsRightLine c l == so are those of the line l, and its
+--       coefficient is a value that is not 0
+--   AreOpenLines g ls, AreExtractLines g ls, AreRightLines c ls == so it is with each of ls
 use Rattle.std.specs.Prelude.{ℕ, ◌<◌, ◌≤◌, List, length}
 use Rattle.std.specs.List.{AllByRecursion}
 use Rattle.exact_sums.specs.Saturating.{overflow}
@@ -53,11 +54,20 @@ pub record IsRightKey (c : Content) (k : RightKey) : Type 0 where
   pub left : k.left.0 < length c.trees
   pub right : k.right.0 < length c.trees
 
+abbrev pub IsOpenLine : GroveContent → OpenKey × ℕ → Type 0
+IsOpenLine g l = IsOpenKey g l.0 × (0 < l.1) × (l.1 ≤ overflow)
+
+abbrev pub IsExtractLine : GroveContent → ExtractKey × ℕ → Type 0
+IsExtractLine g l = IsExtractKey g l.0 × (0 < l.1) × (l.1 ≤ overflow)
+
+abbrev pub IsRightLine : Content → RightKey × ℕ → Type 0
+IsRightLine c l = IsRightKey c l.0 × (0 < l.1) × (l.1 ≤ overflow)
+
 abbrev pub AreOpenLines : GroveContent → List (OpenKey × ℕ) → Type 0
-AreOpenLines g = AllByRecursion (λ l. IsOpenKey g l.0 × (0 < l.1) × (l.1 ≤ overflow))
+AreOpenLines g = AllByRecursion (IsOpenLine g)
 
 abbrev pub AreExtractLines : GroveContent → List (ExtractKey × ℕ) → Type 0
-AreExtractLines g = AllByRecursion (λ l. IsExtractKey g l.0 × (0 < l.1) × (l.1 ≤ overflow))
+AreExtractLines g = AllByRecursion (IsExtractLine g)
 
 abbrev pub AreRightLines : Content → List (RightKey × ℕ) → Type 0
-AreRightLines c = AllByRecursion (λ l. IsRightKey c l.0 × (0 < l.1) × (l.1 ≤ overflow))
+AreRightLines c = AllByRecursion (IsRightLine c)

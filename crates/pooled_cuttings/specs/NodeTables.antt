@@ -38,8 +38,7 @@ pub record IsOneMore (c : Content) (e : EdgeTo) (n : Multi) (rest : List EdgeTo)
   pub types : HasTypes c.types (tree_with c e n rest)
   pub bounded : IsBounded (tree_with c e n rest)
 
-pub record AreTables (g : GroveContent) (b : TableBounds) (t : Plain) (x : NodeTables) : Type 0
-where
+pub record AreTables (g : GroveContent) (b : TableBounds) (t : Plain) (x : NodeTables) : Type 0 where
   pub lows : AreLows g.pool.types t x.lows
   pub idle_lines : AreExtractLines g x.idle.items
   pub idle :

@@ -2,12 +2,21 @@
 //! steps by which they grow edge by edge.
 #![tactic(auto)]
 
+mod beside;
+mod closing;
+mod collecting;
 mod grove;
+mod inside;
 mod keys;
 mod laws;
+mod lines;
+mod made;
+mod outside;
 mod right;
+mod steps;
 mod tables;
 
+pub use collecting::{collect_extracted, collect_recentred};
 pub use grove::Grove;
 pub use keys::{ExtractKey, OpenKey, RightKey};
 pub use laws::{equal_keys, growth_laws, right_growth_laws};

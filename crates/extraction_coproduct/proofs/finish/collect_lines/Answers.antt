@@ -1,5 +1,5 @@
+use Rattle.pooled_cuttings.proofs.SameKeys.{extracted_same}
 use Rattle.pooled_cuttings.specs.contracts.keys.ExtractKeyPartialEq.TheImpl.{eq-value}
-use Rattle.extraction_coproduct.proofs.EqualKeys.{equal_keys}
 use Rattle.extraction_coproduct.proofs.Lines.{joined_lines, joined_lines_sums, joined_lines_collected}
 use Rattle.extraction_coproduct.proofs.finish.collect_lines.Goals as goal
 
@@ -10,8 +10,11 @@ returns c =
     let xs = c.args.lines.now.items in
     let ys = c.sort_lines.new.lines.items in
     let zs = c.join_equal.new.terms.items in
+    let moved = c.sort_lines.ensures.same in
+    let sorted = c.sort_lines.ensures.sorted in
+    let joined = c.join_equal.ensures in
     record {
-      lines = joined_lines g grove eq-value.it (equal_keys g grove) xs ys zs c.requires c.sort_lines.ensures.same c.sort_lines.ensures.sorted c.join_equal.ensures;
-      sums = joined_lines_sums g grove eq-value.it (equal_keys g grove) xs ys zs c.requires c.sort_lines.ensures.same c.sort_lines.ensures.sorted c.join_equal.ensures;
-      collected = joined_lines_collected g grove eq-value.it (equal_keys g grove) xs ys zs c.requires c.sort_lines.ensures.same c.sort_lines.ensures.sorted c.join_equal.ensures;
+      lines = joined_lines g grove eq-value.it (λ k l a b. extracted_same g k l grove a b) xs ys zs c.requires moved sorted joined;
+      sums = joined_lines_sums g grove eq-value.it (λ k l a b. extracted_same g k l grove a b) xs ys zs c.requires moved sorted joined;
+      collected = joined_lines_collected g grove eq-value.it (λ k l a b. extracted_same g k l grove a b) xs ys zs c.requires moved sorted joined;
     }

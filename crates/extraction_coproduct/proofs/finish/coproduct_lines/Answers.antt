@@ -11,5 +11,5 @@ returns-clause-terms c =
     let ty = c.args.grove.now.pool.types in
     let t = tree_at c.args.grove.now.pool c.args.id.0 in
     let types = c.laws.ensures.pooled.types in
-    extraction_table_terms ty most_shift t (extracted_terms_in c.closed_table-lines.new.grove c.collect_lines.new.lines.items) types (shifts_bounded ty t types c.requires.bounded)
+    extraction_table_terms ty most_shift t (extracted_terms_in c.closed_table.new.grove c.collect_lines.new.lines.items) types (shifts_bounded ty t types c.requires.bounded)
     (λ k. c.collect_lines.ensures.sums k ∙ c.in_ok-lines.ensures.sums k) c.collect_lines.ensures.collected

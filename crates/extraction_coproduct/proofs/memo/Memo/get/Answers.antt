@@ -11,6 +11,6 @@ pub returns : goal.returns
 returns c =
     let i = c.args.id.0 in
     let P : List (ℕ × List ExtractTerm) → Type 0 =
-        λ m. MatchOption c.copied.result (IsIn i (numbers_in m) → ⊥) (λ ts. IsIn (i, ts.now) m) in
+    λ m. MatchOption c.copied.result (IsIn i (numbers_in m) → ⊥) (λ ts. IsIn (i, ts.now) m) in
     subst P c.self.view_is
     (looked_up (λ (k : TreeId). eqb i k.0) i (λ k. Decides-eqb i k.0) c.self.inside.entries.entries c.copied.result (c.copied.ensures ∙ c.get.ensures.value))

@@ -8,5 +8,5 @@ pub returns : goal.returns
 returns c =
     let i = c.args.id.0 in
     let P : TablesContent → Type 0 =
-        λ b. MatchOption c.get.result (IsIn i b.finished → ⊥) (λ ts. IsIn i b.finished × IsTerms (grove_of b) i ts.now) in
+    λ b. MatchOption c.get.result (IsIn i b.finished → ⊥) (λ ts. IsIn i b.finished × IsTerms (grove_of b) i ts.now) in
     subst P c.self.view_is (found_terms c.self.inside.grove c.self.inside.memo i c.self.invariant c.get.result c.get.ensures)

@@ -1,0 +1,3 @@
+pub mod BoundsOfTrees
+pub mod EdgesFrom
+pub mod Recursion
