@@ -7,6 +7,7 @@ pub mod Masses
 pub mod OtherTerms
 pub mod Parities
 pub mod RunLaws
+pub mod SameValues
 pub mod SizeLaws
 pub mod Solutions
 pub mod SomeTree

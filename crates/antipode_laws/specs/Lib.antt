@@ -2,5 +2,6 @@ pub mod Antipode
 pub mod Constants
 pub mod Inheritance
 pub mod Runs
+pub mod Sameness
 pub mod Sizes
 pub mod Weighed

@@ -15,6 +15,7 @@ ghost use Rattle.antipode_laws.specs.Weighed.{Weighed, forest_terms, forest_mass
 ghost use Rattle.antipode_laws.specs.Antipode.{other_terms, nothing, IsAntipode};
 ghost use Rattle.antipode_laws.specs.Constants.{IsConstants, expectation_terms};
 ghost use Rattle.antipode_laws.specs.Inheritance.{has_some, is_decorated, has_odd, has_odd_sum};
+ghost use Rattle.antipode_laws.specs.Sameness.{AreSameValues, IsSameHeld, IsHeldValue};
 ghost use Rattle.antipode_laws.specs.Sizes.{IsWithinMass};
 ghost use Rattle.antipode_laws.specs.Runs.{with_forest, quotient_sum, quotient_mass};
 
@@ -30,9 +31,11 @@ pub fn solutions_are_unique()
     ensures constants { (ty : Types) (held : Plain → Option Weighed) (c d : Plain → Weighed) → IsConstants ty held c → IsConstants ty held d → (t : Plain) → HasTypes ty t → c t ≡ d t }
 {}
 
-/// Constants stay what they are where some of them are held besides. So where each value that is held is the constant of its tree, the constants are those with nothing held.
+/// Constants stay what they are where some of them are held besides, as polynomials with their masses. So where each value that is held is the constant of its tree, the
+/// constants are those with nothing held.
 pub fn constants_may_be_held()
-    ensures { (ty : Types) (held more : Plain → Option Weighed) (c : Plain → Weighed) → IsConstants ty held c → ((t : Plain) → HasTypes ty t → (more t ≡ held t) ⊎ (more t ≡ Some (c t))) → IsConstants ty more c }
+    ensures itself { (ty : Types) (held more : Plain → Option Weighed) (c : Plain → Weighed) → IsConstants ty held c → ((t : Plain) → HasTypes ty t → (more t ≡ held t) ⊎ (more t ≡ Some (c t))) → IsConstants ty more c }
+    ensures same { (ty : Types) (held more : Plain → Option Weighed) (c d : Plain → Weighed) → IsConstants ty held c → IsConstants ty more d → ((t : Plain) → HasTypes ty t → IsSameHeld (held t) (more t) ⊎ IsHeldValue (more t) (c t)) → (t : Plain) → HasTypes ty t → AreSameValues (c t) (d t) }
 {}
 
 /// The constants, where nothing is held, are the expectations of the twisted antipode.
