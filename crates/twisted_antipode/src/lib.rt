@@ -1,12 +1,12 @@
 //! The twisted antipode, and renormalisation constants.
 #![tactic(auto)]
 
-mod antipode;
-mod constants;
+mod antipodes;
 mod error;
+mod holding;
 mod quotient;
 mod value;
 
-pub use antipode::{antipode, constant};
-pub use constants::Constants;
+pub use antipodes::{antipode, constant};
 pub use error::{AntipodeError, Quantity};
+pub use holding::Constants;

@@ -1,7 +1,7 @@
 // Constants that are held.
 ghost use Rattle.std.specs.Prelude.{◌≡◌, ◌↔◌, [], IfOk, OnOk, OnErr, IsOkUnless, IsTrue};
 ghost use Rattle.symbol_polys.specs.View.{IsPoly};
-ghost use Rattle.twisted_antipode.specs.Held.{held_in, with_held, IsHeld};
+ghost use Rattle.twisted_antipode.specs.Held.{weighed_of, with_held, IsHeld};
 
 use crate::error::AntipodeError;
 use indexmap::IndexMap;
@@ -19,9 +19,12 @@ pub struct Constants {
 
 impl Model for Constants {
     ghost use Rattle.std.specs.Prelude.{List};
-    ghost use Rattle.twisted_antipode.specs.Held.{Held, held_in};
+    ghost use Rattle.std.specs.Coded.{coded_list};
+    ghost use Rattle.twisted_antipode.specs.Held.{Held, held_code, held_in};
 
     ghost Value = { List Held };
+
+    ghost coded = { coded_list held_code };
 
     ghost view = { λ c. held_in c.entries.entries };
 }
@@ -29,7 +32,7 @@ impl Model for Constants {
 impl Constants {
     /// Nothing is held. Takes no memory.
     pub fn new(alloc: Global) -> Result<Constants, AntipodeError>
-        ensures { IfOk result (λ c. c ≡ []) }
+        ensures nothing { IfOk result (λ c. c ≡ []) }
         ensures memory { IsOkUnless result AntipodeError.Memory }
     {
         Ok(Constants {
@@ -41,13 +44,15 @@ impl Constants {
     /// one that was held. Fails only for want of memory, and then holds what it held.
     pub fn hold(&mut self, alloc: Global, id: TreeId, value: Poly) -> Result<(), AntipodeError>
         requires { IsPoly value }
-        ensures held { OnOk result (self.new ≡ with_held self.old id.0 value) }
+        ensures held { OnOk result (self.new ≡ with_held self.old id.0 (weighed_of value)) }
         ensures unchanged { OnErr result (self.new ≡ self.old) }
         ensures memory { IsOkUnless result AntipodeError.Memory }
     {
         let _ = alloc;
-        self.entries.insert(id, value)?;
-        Ok(())
+        match self.entries.insert(id, value) {
+            Ok(_) => Ok(()),
+            Err(_) => Err(AntipodeError::Memory),
+        }
     }
 
     /// Whether a polynomial is held for a tree. Takes no memory.

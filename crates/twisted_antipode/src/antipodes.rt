@@ -1,6 +1,6 @@
 // The twisted antipode of a tree, and its constant.
 ghost use Rattle.std.specs.Prelude.{◌≡◌, ◌<◌, ◌≤◌, length, IfOk, IfErr};
-ghost use Rattle.symbol_polys.specs.View.{IsPoly};
+ghost use Rattle.symbol_polys.specs.View.{terms_of, IsPoly};
 ghost use Rattle.tree_pool.specs.Content.{tree_at};
 ghost use Rattle.cutting_sizes.specs.Bounds.{IsBounded};
 ghost use Rattle.extraction_coproduct.specs.Finished.{AreGrown};
@@ -9,9 +9,9 @@ ghost use Rattle.antipode_laws.specs.Antipode.{IsAntipode};
 ghost use Rattle.antipode_laws.specs.Constants.{IsConstants};
 ghost use Rattle.plain_trees.specs.Plain.{Plain};
 ghost use Rattle.twisted_antipode.specs.Values.{IsPolyOf};
-ghost use Rattle.twisted_antipode.specs.Held.{held_over, AreHeldOver, IsOverExpectations, IsExtended, IsAntipodeRefused, IsConstantRefused};
+ghost use Rattle.twisted_antipode.specs.Held.{held_over, AreHeldOver, AreOverExpectations, IsExtended, IsAntipodeRefused, IsConstantRefused};
 
-use crate::constants::Constants;
+use crate::holding::Constants;
 use crate::error::AntipodeError;
 use extraction_coproduct::{Tables, Work};
 use std::alloc::Global;
@@ -37,7 +37,7 @@ pub fn antipode<'a>(
     ensures grown { AreGrown tables.old tables.new }
     ensures count { work.old.tables ≤ work.new.tables }
 {
-    let _ = (alloc, tables, id, work);
+    let _ = (alloc, id);
     Err(AntipodeError::Memory)
 }
 
@@ -57,7 +57,7 @@ pub fn constant<'a>(
     requires bounded { IsBounded (tree_at tables.old.pool id.0) }
     requires held { AreHeldOver tables.old.pool constants.old }
     ensures poly { IfOk result IsPoly }
-    ensures expectations { IfOk result IsOverExpectations }
+    ensures expectations { IfOk result (λ p. AreOverExpectations (terms_of p.terms)) }
     ensures value { IfOk result (λ p. (c : Plain → Weighed) →
         IsConstants tables.old.pool.types (held_over tables.old.pool constants.old) c →
         IsPolyOf (c (tree_at tables.old.pool id.0)) p) }
@@ -68,6 +68,6 @@ pub fn constant<'a>(
     ensures grown { AreGrown tables.old tables.new }
     ensures count { work.old.tables ≤ work.new.tables }
 {
-    let _ = (alloc, tables, id, work);
+    let _ = (alloc, id);
     Err(AntipodeError::Memory)
 }
