@@ -125,7 +125,7 @@ module _ (of_quotient : Plain → List PlainTerm) (a : Plain → Weighed) (fs : 
 pub sum_of_both : (of_quotient : Plain → List PlainTerm) (a : Plain → Weighed) (xs ys : List (Extracted × ℕ)) → negated_sum of_quotient a (xs ++ ys) ≡ negated_sum of_quotient a xs ++ negated_sum of_quotient a ys
 sum_of_both of_quotient a xs ys = flat_map-append (negated of_quotient a) xs ys
 
-sums_of_both : (ms ns : List ℕ) → saturating_sum (ms ++ ns) ≡ saturating_plus (saturating_sum ms) (saturating_sum ns)
+pub sums_of_both : (ms ns : List ℕ) → saturating_sum (ms ++ ns) ≡ saturating_plus (saturating_sum ms) (saturating_sum ns)
 sums_of_both ms ns =
     let all = saturating_sum_is (ms ++ ns) in
     let first = saturating_sum_is ms in
@@ -139,3 +139,6 @@ sums_of_both ms ns =
 
 pub mass_of_both : (of_quotient : Plain → List PlainTerm) (a : Plain → Weighed) (xs ys : List (Extracted × ℕ)) → mass_sum of_quotient a (xs ++ ys) ≡ saturating_plus (mass_sum of_quotient a xs) (mass_sum of_quotient a ys)
 mass_of_both of_quotient a xs ys = ap saturating_sum (map-append (term_mass of_quotient a) xs ys) ∙ sums_of_both (map (term_mass of_quotient a) xs) (map (term_mass of_quotient a) ys)
+
+pub quotient_sums_of_both : (of_quotient : Plain → List PlainTerm) (qs rs : List (Plain × ℕ)) → quotient_sum of_quotient (qs ++ rs) ≡ quotient_sum of_quotient qs ++ quotient_sum of_quotient rs
+quotient_sums_of_both of_quotient qs rs = flat_map-append (λ (q : Plain × ℕ). times_all (pos q.1) (of_quotient q.0)) qs rs

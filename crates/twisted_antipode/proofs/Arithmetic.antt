@@ -21,10 +21,10 @@ use Rattle.twisted_antipode.specs.Values.{IsPolyOf, IsValueOf, sum_of, product_o
 abs_pos : (n : ℕ) → unsigned_abs (pos n) ≡ n
 abs_pos n = omega (arith, ints)
 
-mass_is : (w : Weighed) (f : Poly) → IsPolyOf w f → unsigned_abs f.mass ≡ w.mass
+pub mass_is : (w : Weighed) (f : Poly) → IsPolyOf w f → unsigned_abs f.mass ≡ w.mass
 mass_is w f h = ap unsigned_abs h.mass ∙ abs_pos w.mass
 
-in_range : (n : ℕ) → n < overflow → n ≡ saturated n
+pub in_range : (n : ℕ) → n < overflow → n ≡ saturated n
 in_range n h = omega (arith, h)
 
 pub added : (w u : Weighed) (f g p : Poly) → IsPolyOf w f → IsPolyOf u g →

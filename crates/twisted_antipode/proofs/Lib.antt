@@ -1,3 +1,4 @@
 pub mod Arithmetic
 pub mod Pooled
 pub mod Entries
+pub mod RunSums

@@ -1,3 +1,4 @@
 pub mod Held
 pub mod Quotients
+pub mod RunTerms
 pub mod Values

@@ -5,6 +5,7 @@ mod antipodes;
 mod error;
 mod holding;
 mod quotient;
+mod runs;
 mod value;
 
 pub use antipodes::{antipode, constant};
