@@ -1,5 +1,5 @@
 -- The recursion keeps values that are the same so.
-use Rattle.std.proofs.Common.{◌≡◌, ℕ, ◌⊎◌, inl, inr, pos, neg_ℤ, ℤ, ◌+ℤ◌, ◌*ℤ◌, Bool, true, false, cond, List, [], ◌∷◌, ◌++◌, map, if◌then◌else◌, refl, sym, ap, ◌∙◌, subst, Option, Some, None}
+use Rattle.std.proofs.Common.{◌≡◌, ℕ, ◌⊎◌, inl, inr, pos, neg_ℤ, ℤ, ◌+ℤ◌, ◌*ℤ◌, true, false, cond, List, [], ◌∷◌, map, if◌then◌else◌, refl, sym, ap, ◌∙◌, subst, Option, Some, None}
 use Rattle.std.specs.List.{AllByRecursion}
 use Rattle.exact_sums.specs.Saturating.{overflow, saturating_sum, saturating_product, saturating_times}
 use Rattle.degree_numbers.specs.declared.types.Types.{Types}
@@ -7,14 +7,12 @@ use Rattle.degree_numbers.proofs.TypeBounds.{all_weaker}
 use Rattle.plain_trees.specs.Plain.{Plain}
 use Rattle.plain_trees.specs.Degree.{HasTypes, is_empty_tree}
 use Rattle.plain_trees.specs.Coproducts.{Extracted, extraction_terms}
-use Rattle.symbol_polys.specs.Symbols.{PlainSymbol}
-use Rattle.symbol_polys.specs.Polynomials.{PlainTerm, coefficient_of, HaveSameCoefficients, times_all}
+use Rattle.symbol_polys.specs.Polynomials.{PlainTerm, coefficient_of, HaveSameCoefficients}
 use Rattle.symbol_polys.specs.Products.{products}
 use Rattle.symbol_polys.proofs.AddLaws.{coefficient_of-append}
 use Rattle.symbol_polys.proofs.PolyLaws.{coefficient_of-times_all}
 use Rattle.symbol_polys.proofs.CongruenceLaws.{products_same}
-use Rattle.cutting_sizes.specs.Bounds.{IsSmaller}
-use Rattle.antipode_laws.specs.Weighed.{Weighed, unit, has_terms, forest_terms, forest_mass, negated, negated_sum, term_mass, mass_sum}
+use Rattle.antipode_laws.specs.Weighed.{Weighed, unit, has_terms, forest_terms, negated, negated_sum, term_mass}
 use Rattle.antipode_laws.specs.Antipode.{other_terms, are_in_range, from_smaller, value_at, IsSolution}
 use Rattle.antipode_laws.specs.Sameness.{AreSameValues, IsSameHeld, IsHeldValue}
 use Rattle.antipode_laws.proofs.BySize.{by_size}

@@ -1,5 +1,5 @@
 -- What the calls on polynomials make of values.
-use Rattle.std.proofs.Common.{◌≡◌, ℕ, ◌+◌, ◌*◌, ◌<◌, ◌≤◌, ℤ, pos, ◌+ℤ◌, ◌*ℤ◌, ◌≤ℤ◌, unsigned_abs, neg_ℤ, ◌⊎◌, inl, inr, Bool, true, false, List, [], ◌∷◌, ◌++◌, refl, sym, ap, ◌∙◌, subst, arith}
+use Rattle.std.proofs.Common.{◌≡◌, ℕ, ◌+◌, ◌*◌, ◌<◌, ◌≤◌, ℤ, pos, ◌+ℤ◌, ◌*ℤ◌, unsigned_abs, neg_ℤ, inl, inr, List, [], ◌∷◌, refl, sym, ap, ◌∙◌, arith}
 use Rattle.std.specs.List.{AllByRecursion}
 use Rattle.std.proofs.Math.IntN.{*ℤ_comm, *ℤ-one}
 use Rattle.std.proofs.lemmas.Bool.{cases_lt}
@@ -7,7 +7,7 @@ use Rattle.std.proofs.lemmas.Int.{ints}
 use Rattle.exact_sums.specs.Saturating.{overflow, saturated, saturating_plus, saturating_times}
 use Rattle.symbol_polys.specs.declared.poly.Poly.{Poly}
 use Rattle.symbol_polys.specs.Symbols.{PlainSymbol}
-use Rattle.symbol_polys.specs.Polynomials.{PlainTerm, coefficient_of, size_of, HaveSameCoefficients, times_all}
+use Rattle.symbol_polys.specs.Polynomials.{PlainTerm, coefficient_of, size_of, HaveSameCoefficients}
 use Rattle.symbol_polys.specs.Products.{products}
 use Rattle.symbol_polys.specs.View.{terms_of, IsPoly}
 use Rattle.symbol_polys.proofs.AddLaws.{coefficient_of-append}
@@ -16,7 +16,7 @@ use Rattle.symbol_polys.proofs.CongruenceLaws.{products_same}
 use Rattle.symbol_polys.proofs.ProductRules.{products-none}
 use Rattle.antipode_laws.proofs.Masses.{times_least}
 use Rattle.antipode_laws.specs.Weighed.{Weighed}
-use Rattle.twisted_antipode.specs.Values.{IsPolyOf, IsValueOf, sum_of, product_of, negative_of}
+use Rattle.twisted_antipode.specs.Values.{IsPolyOf, sum_of, product_of, negative_of}
 
 abs_pos : (n : ℕ) → unsigned_abs (pos n) ≡ n
 abs_pos n = omega (arith, ints)
@@ -98,14 +98,16 @@ nothing_of m n h = let none : 0 ≡ n * 0 = omega arith in rw h (ap saturated no
 pub nothing : (w u : Weighed) (f z : Poly) → IsPoly f → f.mass ≡ pos 0 → terms_of z.terms ≡ [] → z.mass ≡ pos 0 → IsPolyOf w f → IsPolyOf (product_of w u) z × IsPolyOf (product_of u w) z
 nothing w u f z poly none terms mass h =
     let same : HaveSameCoefficients [] w.terms = λ m. ap (coefficient_of m) (sym (no_terms f poly none)) ∙ h.coefficients m in
-    let zero = no_mass w f h none in
-    (record {
-      coefficients = λ m. ap (coefficient_of m) terms ∙ products_same [] w.terms u.terms u.terms same (λ n. refl) m;
-      mass = mass ∙ ap pos (nothing_times w.mass u.mass zero);
-    }, record {
-      coefficients = λ m. ap (coefficient_of m) (terms ∙ sym (products-none u.terms)) ∙ products_same u.terms u.terms [] w.terms (λ n. refl) same m;
-      mass = mass ∙ ap pos (nothing_of w.mass u.mass zero);
-    })
+    let zero = no_mass w f h none in (
+      record {
+        coefficients = λ m. ap (coefficient_of m) terms ∙ products_same [] w.terms u.terms u.terms same (λ n. refl) m;
+        mass = mass ∙ ap pos (nothing_times w.mass u.mass zero);
+      },
+      record {
+        coefficients = λ m. ap (coefficient_of m) (terms ∙ sym (products-none u.terms)) ∙ products_same u.terms u.terms [] w.terms (λ n. refl) same m;
+        mass = mass ∙ ap pos (nothing_of w.mass u.mass zero);
+      },
+    )
 
 some_mass : (w : Weighed) (f : Poly) → IsPolyOf w f → (f.mass ≡ pos 0 → ⊥) → 0 < w.mass
 some_mass w f h some = elim (cases_lt 0 w.mass) [ inl l ↦ l | inr z ↦ (let none : w.mass ≡ 0 = omega (arith, z) in absurd (some (h.mass ∙ ap pos none))) ]

@@ -1,11 +1,10 @@
 -- The entries of the map of what is held.
-use Rattle.std.proofs.Common.{◌≡◌, ℕ, ◌==◌, Bool, true, false, cond, List, [], ◌∷◌, map, if◌then◌else◌, Option, Some, None, is_some, IsTrue, refl, sym, ap, ◌∙◌, subst, inl, inr, arith}
+use Rattle.std.proofs.Common.{◌≡◌, ◌==◌, Bool, true, false, cond, List, [], ◌∷◌, Option, Some, None, is_some, IsTrue, refl, sym, ap, ◌∙◌, subst, inl, inr}
 use Rattle.std.specs.Bool.{Decides}
 use Rattle.std.specs.Map.{lookup}
 use Rattle.std.specs.Option.{option_copied}
 use denote.Ref.{Bor}
 use Rattle.std.proofs.lemmas.Bool.Decides.{Decides-eqb}
-use Rattle.ordered_lists.specs.Members.{IsIn}
 use Rattle.indexmap.specs.IndexMap.{insert_entry}
 use Rattle.tree_pool.specs.contracts.node.TreeIdPartialEq.TheImpl.{eq-value}
 use Rattle.tree_pool.specs.declared.TreeId.{TreeId}

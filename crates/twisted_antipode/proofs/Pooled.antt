@@ -1,10 +1,10 @@
 -- Trees of a pool.
-use Rattle.std.proofs.Common.{◌≡◌, ℕ, ◌<◌, Bool, true, false, List, [], ◌∷◌, map, length, slice_get, Some, refl, sym, ap, ◌∙◌, subst, arith}
+use Rattle.std.proofs.Common.{◌≡◌, ℕ, ◌<◌, Bool, false, List, [], ◌∷◌, length, refl, sym, ap, ◌∙◌, subst, arith}
 use Rattle.std.proofs.lemmas.Option.{slice_get-get_or}
 use Rattle.degree_numbers.specs.Multi.{is_zero}
 use Rattle.plain_trees.specs.Plain.{Plain, bare, IsSmall}
 use Rattle.plain_trees.specs.Canon.{IsCanonical}
-use Rattle.plain_trees.specs.Degree.{HasTypes, is_empty_tree}
+use Rattle.plain_trees.specs.Degree.{is_empty_tree}
 use Rattle.tree_pool.specs.Content.{Content, Holds, IsKept, IsPooled, tree_at, tree_over}
 use Rattle.tree_pool.specs.declared.EdgeTo.{EdgeTo}
 use Rattle.tree_pool.proofs.Walks.{at_holds}

@@ -1,8 +1,7 @@
 -- Sums over the terms of a run, one term after the other.
-use Rattle.std.proofs.Common.{◌≡◌, ℕ, ◌+◌, ◌*◌, ◌<◌, ◌≤◌, ℤ, pos, ◌*ℤ◌, unsigned_abs, Bool, true, false, cond, if◌then◌else◌, List, [], ◌∷◌, ◌++◌, map, flat_map, take, drop, length, get_or, refl, sym, ap, ◌∙◌, subst, arith, append-nil}
+use Rattle.std.proofs.Common.{◌≡◌, ℕ, ◌+◌, ◌*◌, ◌<◌, ◌≤◌, ℤ, pos, ◌*ℤ◌, unsigned_abs, true, false, cond, if◌then◌else◌, List, [], ◌∷◌, ◌++◌, map, take, drop, length, get_or, refl, sym, ap, ◌∙◌, subst, arith, append-nil}
 use Rattle.std.specs.List.{AllByRecursion}
 use Rattle.std.proofs.lemmas.Grind.{common_steps}
-use Rattle.std.proofs.lemmas.Int.{ints}
 use Rattle.std.proofs.lemmas.List.{map-append}
 use Rattle.exact_sums.specs.Saturating.{overflow, saturated, saturating_plus, saturating_times, saturating_sum}
 use Rattle.degree_numbers.specs.declared.types.Types.{Types}
@@ -82,5 +81,5 @@ pub run_step : (reading : Reading) (c : Content) (es : List ExtractTerm) (i : �
 run_step reading c es i v l h =
     let e = get_or es i no_term in
     let more : quotients_in c (take (i + 1) es) ≡ quotients_in c (take i es) ++ (tree_at c e.quotient.0, unsigned_abs e.coefficient) ∷ [] =
-        ap (quotients_in c) (taken es i l) ∙ map-append (λ (x : ExtractTerm). (tree_at c x.quotient.0, unsigned_abs x.coefficient)) (take i es) (e ∷ []) in
+    ap (quotients_in c) (taken es i l) ∙ map-append (λ (x : ExtractTerm). (tree_at c x.quotient.0, unsigned_abs x.coefficient)) (take i es) (e ∷ []) in
     subst (λ (w : Weighed). IsValueOf w v) (sym (ap (run_value reading c.types) more ∙ one_more reading c.types (quotients_in c (take i es)) (tree_at c e.quotient.0) (unsigned_abs e.coefficient))) h

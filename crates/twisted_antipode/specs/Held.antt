@@ -10,7 +10,7 @@
 --   AreHeldOver c hs == the numbers are those of trees of the pool, and the values are polynomials over expectations, with masses in range
 --   IsExtended c old new == new holds what old holds, and besides it only constants of their trees
 --   IsAntipodeRefused, IsConstantRefused == why there is no antipode, no constant: a coefficient of the extraction coproduct is out of range, or the mass is
-use Rattle.std.specs.Prelude.{◌≡◌, ◌≤◌, ◌<◌, ◌⊎◌, ℕ, ◌==◌, Bool, true, false, if◌then◌else◌, unsigned_abs, pos, refl, List, [], ◌∷◌, map, length, Option, Some, None, ⊤}
+use Rattle.std.specs.Prelude.{◌≡◌, ◌≤◌, ◌<◌, ◌⊎◌, ℕ, ◌==◌, true, false, if◌then◌else◌, unsigned_abs, pos, refl, List, [], ◌∷◌, map, length, Option, Some, None, ⊤}
 use Rattle.std.specs.Coded.{Coded, code_by, coded×, coded_list, coded_ℕ}
 use Rattle.std.specs.List.{AllByRecursion}
 use Rattle.std.specs.Ordering.{is_eq}
@@ -30,7 +30,6 @@ use Rattle.antipode_laws.specs.Weighed.{Weighed}
 use Rattle.antipode_laws.specs.Antipode.{are_in_range, IsAntipode}
 use Rattle.antipode_laws.specs.Constants.{IsConstants}
 use Rattle.antipode_laws.specs.Sameness.{AreSameValues}
-use Rattle.twisted_antipode.specs.declared.error.Quantity.{Quantity}
 use Rattle.twisted_antipode.specs.declared.error.Quantity.TheVariants.{Extraction, Antipode, Constant}
 use Rattle.twisted_antipode.specs.declared.error.AntipodeError.{AntipodeError}
 use Rattle.twisted_antipode.specs.declared.error.AntipodeError.TheVariants.{CoefficientTooLarge, Memory}

@@ -11,8 +11,8 @@ ghost use Rattle.plain_trees.specs.Plain.{Plain};
 ghost use Rattle.twisted_antipode.specs.Values.{IsPolyOf};
 ghost use Rattle.twisted_antipode.specs.Held.{held_over, AreHeldOver, AreOverExpectations, IsExtended, IsAntipodeRefused, IsConstantRefused};
 
-use crate::holding::Constants;
 use crate::error::AntipodeError;
+use crate::holding::Constants;
 use extraction_coproduct::{Tables, Work};
 use std::alloc::Global;
 use symbol_polys::Poly;

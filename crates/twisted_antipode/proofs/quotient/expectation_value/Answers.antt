@@ -1,4 +1,3 @@
-use Rattle.std.proofs.Common.{◌≡◌}
 use Rattle.plain_trees.specs.View.{plain}
 use Rattle.twisted_antipode.proofs.Pooled.{drawn_well}
 use Rattle.twisted_antipode.proofs.quotient.expectation_value.Goals as goal

@@ -1,4 +1,4 @@
-use Rattle.std.proofs.Common.{◌≡◌, length, false, arith, sym, ◌∙◌}
+use Rattle.std.proofs.Common.{◌≡◌, length, arith, sym, ◌∙◌}
 use Rattle.std.proofs.lemmas.Bool.Decides.{nat_tests}
 use Rattle.twisted_antipode.proofs.Pooled.{empty_at, edges_at}
 use Rattle.twisted_antipode.proofs.quotient.is_empty.Goals as goal

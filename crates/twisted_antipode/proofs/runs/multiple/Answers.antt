@@ -1,4 +1,4 @@
-use Rattle.std.proofs.Common.{◌≡◌, sym, ◌∙◌, subst, unsigned_abs, to_z, of_z}
+use Rattle.std.proofs.Common.{sym, ◌∙◌, subst, unsigned_abs, to_z, of_z}
 use Rattle.std.specs.Int.{w128}
 use Rattle.symbol_polys.proofs.PolyLaws.{mass_kept}
 use Rattle.twisted_antipode.specs.Values.{IsValueOf}

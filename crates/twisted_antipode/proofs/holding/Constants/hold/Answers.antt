@@ -1,4 +1,4 @@
-use Rattle.std.proofs.Common.{◌≡◌, ap, sym, ◌∙◌, List}
+use Rattle.std.proofs.Common.{ap, ◌∙◌, List}
 use Rattle.twisted_antipode.specs.Held.{Held, weighed_of, held_in, with_held}
 use Rattle.twisted_antipode.proofs.Entries.{inserted}
 use Rattle.twisted_antipode.proofs.holding.Constants.hold.Goals as goal
