@@ -1,5 +1,7 @@
--- Terms that have one forest in common: their sum is the product of the forest and of the sum of their quotients.
---   with_forest fs qs == the terms with the forest fs and the quotients qs, each with its coefficient
+-- Terms that have one forest in common: their sum is the product of the forest and of the sum of
+-- their quotients.
+--   with_forest fs qs == the terms with the forest fs and the quotients qs, each with its
+--       coefficient
 --   quotient_sum of_quotient qs == the sum of coefficient times value of the quotient
 --   quotient_mass of_quotient qs == the sum of the coefficients of those quotients that count
 use Rattle.std.specs.Prelude.{ℕ, pos, if◌then◌else◌, List, map, flat_map}
@@ -16,4 +18,5 @@ abbrev pub quotient_sum : (Plain → List PlainTerm) → List (Plain × ℕ) →
 quotient_sum of_quotient qs = flat_map (λ q. times_all (pos q.1) (of_quotient q.0)) qs
 
 abbrev pub quotient_mass : (Plain → List PlainTerm) → List (Plain × ℕ) → ℕ
-quotient_mass of_quotient qs = saturating_sum (map (λ q. if has_terms (of_quotient q.0) then saturated q.1 else 0) qs)
+quotient_mass of_quotient qs = saturating_sum
+    (map (λ q. if has_terms (of_quotient q.0) then saturated q.1 else 0) qs)

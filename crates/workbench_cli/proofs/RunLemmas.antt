@@ -1,5 +1,5 @@
 -- Answers to requests.
-use Rattle.std.proofs.Common.{◌≡◌, ◌≢◌, ◌⊎◌, inl, inr, ℕ, List, [], ◌∷◌, ◌++◌, take, Option, None, Some, Result, Ok, Err, IfOk, map, refl, sym, ap, ◌∙◌, subst, arith}
+use Rattle.std.proofs.Common.{◌≡◌, ◌≢◌, ◌⊎◌, inl, inr, ℕ, List, [], ◌∷◌, ◌++◌, take, Option, None, Some, Result, Ok, Err, IfOk, IfErr, map, refl, sym, ap, ◌∙◌, subst, arith}
 use Rattle.wb_outside.specs.Told.{Writing}
 use Rattle.workbench_core.specs.declared.refusal.Refusal.{Refusal}
 use Rattle.workbench_core.specs.declared.refusal.Refusal.TheVariants.{FileFault, Memory}
@@ -38,6 +38,12 @@ module _ (texts : List ℕ → Option (List ℕ)) where
       → IfOk result (λ x. IsGiven r pieces (view x)) → IfOk result (λ x. IsOfFiles r texts (view x))
   answers_of_files r names pieces (Ok x) view same read given = of_files r names pieces (view x) same read given
   answers_of_files r names pieces (Err e) view same read given = given
+
+  pub refusals_of_files : {T : Type 0} (r : Request) (names pieces : List (List ℕ)) (result : Result T Refusal) → names ≡ files_of r → AreRead texts names pieces
+      → IfErr result (λ e. (e ≡ Memory) ⊎ IsGiven r pieces (of_refusal e)) → IfErr result (λ e. (e ≡ FileFault) ⊎ (e ≡ Memory) ⊎ IsOfFiles r texts (of_refusal e))
+  refusals_of_files r names pieces (Ok x) same read given = given
+  refusals_of_files r names pieces (Err e) same read (inl memory) = inr (inl memory)
+  refusals_of_files r names pieces (Err e) same read (inr given) = inr (inr (of_files r names pieces (of_refusal e) same read given))
 
   pub refused_answer : (r : Request) (x e : Refusal) → (e ≡ x) ⊎ (e ≡ Memory) → (x ≡ FileFault) ⊎ (x ≡ Memory) ⊎ IsOfFiles r texts (of_refusal x) → IsAnswer r texts (of_refusal e)
   refused_answer r x e (inr memory) h = inr (inl (ap of_refusal memory))

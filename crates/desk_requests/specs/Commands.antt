@@ -1,0 +1,17 @@
+-- Statuses of refusals, and the keys of bodies.
+use Rattle.std.specs.Prelude.{ℕ, List, codes}
+use Rattle.desk_requests.specs.declared.decision.Refusal.{Refusal}
+use Rattle.desk_requests.specs.declared.decision.Refusal.TheVariants.{BadRequest, NotFound, MethodNotAllowed, LengthRequired, TooLarge}
+use Rattle.desk_requests.specs.declared.decision.Member.{Member}
+use Rattle.desk_requests.specs.declared.decision.Member.TheVariants.{File, Tree}
+
+abbrev pub status_of : Refusal → ℕ
+status_of BadRequest = 400
+status_of NotFound = 404
+status_of (MethodNotAllowed m) = 405
+status_of LengthRequired = 411
+status_of TooLarge = 413
+
+abbrev pub key_of : Member → List ℕ
+key_of File = codes "file"
+key_of Tree = codes "tree"

@@ -1,0 +1,6 @@
+pub mod Body
+pub mod Commands
+pub mod Decisions
+pub mod Fields
+pub mod Heads
+pub mod Places
