@@ -4,6 +4,7 @@
 mod antipodes;
 mod error;
 mod holding;
+mod keeping;
 mod quotient;
 mod runs;
 mod value;

@@ -1,7 +1,0 @@
-use Rattle.std.proofs.Common.{subst}
-use Rattle.twisted_antipode.specs.Values.{IsValueOf}
-use Rattle.twisted_antipode.proofs.Arithmetic.{copied}
-use Rattle.twisted_antipode.proofs.value.copy.Goals as goal
-
-pub returns-in-Ok-clause-value : goal.returns-in-Ok-clause-value
-returns-in-Ok-clause-value c = λ w l h. copied w c.in-Sum.f c.in-Ok.p (subst (IsValueOf w) c.in-Sum.is h) c.in-Ok.ensures.coefficients c.in-Ok.ensures.mass
