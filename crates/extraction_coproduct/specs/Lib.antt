@@ -1,4 +1,2 @@
 pub mod Finished
-pub mod Memo
-pub mod Sorted
 pub mod Terms

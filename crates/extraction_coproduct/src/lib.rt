@@ -1,9 +1,7 @@
-//! The extraction coproduct of the trees of a pool.
+//! A stub.
 #![tactic(auto)]
 
 mod error;
-mod finish;
-mod memo;
 mod tables;
 mod term;
 

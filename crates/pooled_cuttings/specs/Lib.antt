@@ -1,4 +1,2 @@
 pub mod Groves
 pub mod Lines
-pub mod NodeTables
-pub mod Products

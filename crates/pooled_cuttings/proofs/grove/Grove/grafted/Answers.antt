@@ -1,5 +1,0 @@
-use Rattle.tree_pool.proofs.Ids.{fits_grown}
-use Rattle.pooled_cuttings.proofs.grove.Grove.grafted.Goals as goal
-
-pub invariant_of-self : goal.invariant_of-self
-invariant_of-self c = fits_grown c.self.inside.forests c.self.inside.pool c.grafted.new.pool c.grafted.ensures.grown c.self.invariant
