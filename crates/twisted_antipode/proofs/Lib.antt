@@ -2,3 +2,4 @@ pub mod Arithmetic
 pub mod Pooled
 pub mod Entries
 pub mod RunSums
+pub mod KnownLaws

@@ -3,6 +3,7 @@
 --   held_code == a code for it
 --   weighed_of p == the value that the polynomial p is
 --   held_in es == the entries es of a map, as contracts see them
+--   ArePolys es == the polynomials of the entries es are in order
 --   with_held hs i w == hs with the value w for the number i: in the place of that which was there, or behind the others
 --   IsHeld hs i == some value is held for the number i
 --   held_over c hs == the values that are held, by tree
@@ -25,7 +26,7 @@ use Rattle.symbol_polys.specs.declared.poly.Poly.{Poly}
 use Rattle.symbol_polys.specs.Symbols.{PlainSymbol, parameter, variable, noise, tree, expectation}
 use Rattle.symbol_polys.specs.Code.{term_code}
 use Rattle.symbol_polys.specs.Polynomials.{PlainTerm, IsPolynomial}
-use Rattle.symbol_polys.specs.View.{terms_of}
+use Rattle.symbol_polys.specs.View.{terms_of, IsPoly}
 use Rattle.antipode_laws.specs.Weighed.{Weighed}
 use Rattle.antipode_laws.specs.Antipode.{are_in_range, IsAntipode}
 use Rattle.antipode_laws.specs.Constants.{IsConstants}
@@ -49,6 +50,9 @@ weighed_of p = record { terms = terms_of p.terms; mass = unsigned_abs p.mass }
 
 abbrev pub held_in : List (TreeId × Poly) → List Held
 held_in = map (λ e. (e.0.0, weighed_of e.1))
+
+abbrev pub ArePolys : List (TreeId × Poly) → Type 0
+ArePolys es = AllByRecursion (λ e. IsPoly e.1) es
 
 abbrev pub with_held : List Held → ℕ → Weighed → List Held
 with_held [] i w = (i, w) ∷ []

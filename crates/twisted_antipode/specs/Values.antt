@@ -1,17 +1,20 @@
 -- Values as the program makes them: a polynomial with its mass, or only that the mass is out of range.
 --   IsPolyOf w p == the polynomial p has the coefficients and the mass of w
 --   IsValueOf w v == v stands for w: it is such a polynomial, or the mass of w is out of range
+--   IsInRange v == where v is a polynomial, its mass is in range
+--   forest_weighed a fs == the product of the values that a gives the trees fs
 --   IsKept v == where v is a polynomial, it is one with its mass
 --   nothing_value, symbol_value s == the value 0, the value that is a symbol
 --   sum_of w u, product_of w u, negative_of w == the sum and the product of two values, and minus a value
-use Rattle.std.specs.Prelude.{◌≡◌, ◌≤◌, pos, neg_ℤ, [], ◌++◌, ⊤}
+use Rattle.std.specs.Prelude.{◌≡◌, ◌≤◌, ◌<◌, pos, neg_ℤ, unsigned_abs, List, [], ◌++◌, ⊤}
 use Rattle.exact_sums.specs.Saturating.{overflow, saturating_plus, saturating_times}
 use Rattle.symbol_polys.specs.declared.poly.Poly.{Poly}
 use Rattle.symbol_polys.specs.Symbols.{PlainSymbol}
 use Rattle.symbol_polys.specs.Polynomials.{HaveSameCoefficients, times_all}
 use Rattle.symbol_polys.specs.Products.{products}
 use Rattle.symbol_polys.specs.View.{terms_of, IsPoly}
-use Rattle.antipode_laws.specs.Weighed.{Weighed, symbol_term}
+use Rattle.plain_trees.specs.Plain.{Plain}
+use Rattle.antipode_laws.specs.Weighed.{Weighed, symbol_term, forest_terms, forest_mass}
 use Rattle.twisted_antipode.specs.declared.value.Value.{Value}
 use Rattle.twisted_antipode.specs.declared.value.Value.TheVariants.{Sum, TooLarge}
 
@@ -26,6 +29,13 @@ IsValueOf w TooLarge = overflow ≤ w.mass
 abbrev pub IsKept : Value → Type 0
 IsKept (Sum p) = IsPoly p
 IsKept TooLarge = ⊤
+
+abbrev pub IsInRange : Value → Type 0
+IsInRange (Sum p) = unsigned_abs p.mass < overflow
+IsInRange TooLarge = ⊤
+
+abbrev pub forest_weighed : (Plain → Weighed) → List Plain → Weighed
+forest_weighed a fs = record { terms = forest_terms a fs; mass = forest_mass a fs }
 
 abbrev pub nothing_value : Weighed
 nothing_value = record { terms = []; mass = 0 }

@@ -1,7 +1,8 @@
 // Constants that are held.
-ghost use Rattle.std.specs.Prelude.{◌≡◌, ◌↔◌, [], IfOk, OnOk, OnErr, IsOkUnless, IsTrue};
+ghost use Rattle.std.specs.Prelude.{◌≡◌, ◌↔◌, [], IfOk, OnOk, OnErr, IsOkUnless, IsTrue, MatchOption, Some, None};
 ghost use Rattle.symbol_polys.specs.View.{IsPoly};
 ghost use Rattle.twisted_antipode.specs.Held.{weighed_of, with_held, IsHeld};
+ghost use Rattle.twisted_antipode.specs.Known.{first_held};
 
 use crate::error::AntipodeError;
 use indexmap::IndexMap;
@@ -20,13 +21,15 @@ pub struct Constants {
 impl Model for Constants {
     ghost use Rattle.std.specs.Prelude.{List};
     ghost use Rattle.std.specs.Coded.{coded_list};
-    ghost use Rattle.twisted_antipode.specs.Held.{Held, held_code, held_in};
+    ghost use Rattle.twisted_antipode.specs.Held.{Held, held_code, held_in, ArePolys};
 
     ghost Value = { List Held };
 
     ghost coded = { coded_list held_code };
 
     ghost view = { λ c. held_in c.entries.entries };
+
+    ghost invariant = { λ c. ArePolys c.entries.entries };
 }
 
 impl Constants {
@@ -60,5 +63,12 @@ impl Constants {
         ensures { IsTrue result ↔ IsHeld self.now id.0 }
     {
         self.entries.get(&id).is_some()
+    }
+    /// The polynomial that is held for a tree. Takes no memory.
+    pub(crate) fn get(&self, id: TreeId) -> Option<&Poly>
+        ensures { MatchOption result (first_held self.now id.0 ≡ None)
+            (λ p. IsPoly p.now × (first_held self.now id.0 ≡ Some (weighed_of p.now))) }
+    {
+        self.entries.get(&id)
     }
 }

@@ -3,7 +3,7 @@ ghost use Rattle.std.specs.Prelude.{◌≤◌, IfOk, IsOkUnless};
 ghost use Rattle.exact_sums.specs.Saturating.{overflow};
 ghost use Rattle.symbol_polys.specs.View.{IsPoly};
 ghost use Rattle.antipode_laws.specs.Weighed.{Weighed, unit};
-ghost use Rattle.twisted_antipode.specs.Values.{IsPolyOf, IsValueOf, IsKept, sum_of, product_of, negative_of};
+ghost use Rattle.twisted_antipode.specs.Values.{IsPolyOf, IsValueOf, IsKept, IsInRange, sum_of, product_of, negative_of};
 
 use std::alloc::Global;
 use symbol_polys::{Poly, PolyError, add, mul, one, scale, zero};
@@ -104,6 +104,7 @@ pub(crate) fn copy(alloc: Global, a: &Value) -> Result<Value, PolyError>
     ensures kept { IfOk result IsKept }
     ensures value { IfOk result (λ v. (w : Weighed) → w.mass ≤ overflow → IsValueOf w a.now →
         IsValueOf w v) }
+    ensures range { IfOk result IsInRange }
     ensures memory { IsOkUnless result PolyError.Memory }
 {
     match a {
