@@ -14,6 +14,8 @@ use Rattle.plain_trees.specs.Degree.{HasTypes}
 use Rattle.plain_trees.proofs.OrderLaws.{tree_order_total, tree_exact}
 use Rattle.tree_pool.specs.Content.{Content, Holds, IsKept, IsPooled, IsGrown, tree_at}
 use Rattle.tree_pool.proofs.Growth.{grown_at, grown_length}
+use Rattle.std.proofs.lemmas.Int.{ints}
+use Rattle.symbol_polys.specs.View.{IsPoly}
 use Rattle.symbol_polys.specs.declared.poly.Poly.{Poly}
 use Rattle.antipode_laws.specs.Weighed.{Weighed}
 use Rattle.antipode_laws.specs.Antipode.{value_at}
@@ -188,3 +190,6 @@ first_well c (k ∷ hs) i w well h =
       | true ↦ λ e. (let same : k.1 ≡ w = cc in subst (λ (u : Weighed). u.mass < overflow) same well.0.range)
       | false ↦ λ e. first_well c hs i w well.1 e
     ]) h
+
+pub self_poly : (p : Poly) → IsPoly p → IsPolyOf (weighed_of p) p
+self_poly p h = let within = h.within in record { coefficients = λ m. refl; mass = omega (arith, ints, within) }

@@ -3,3 +3,4 @@ pub mod Pooled
 pub mod Entries
 pub mod RunSums
 pub mod KnownLaws
+pub mod Keepings

@@ -12,9 +12,10 @@
 --   part_value reading ty a xs == the part of the right side of the recursion that the terms xs make
 --   IsPartIn c t i == the tree with the number i is bounded and smaller than t
 --   AreParts c t is == so is each with a number in is
---   IsRun g ty t f es == es are terms of the extraction coproduct of t, all with the forest f
+--   IsRun g xs f es == es are some of the terms xs, all with the forest f
+--   IsRunOf g xs es == the same, with the forest of the first of them
 --   rank t == what falls from a tree to the trees of its forests
-use Rattle.std.specs.Prelude.{◌≡◌, ◌≤◌, ◌<◌, ◌⊎◌, ◌+◌, ◌*◌, ◌==◌, ℕ, not, pos, if◌then◌else◌, unsigned_abs, List, [], ◌∷◌, map, filter, length, Option, Some, None}
+use Rattle.std.specs.Prelude.{◌≡◌, ◌≤◌, ◌<◌, ◌⊎◌, ◌+◌, ◌*◌, ◌==◌, ℕ, not, pos, if◌then◌else◌, unsigned_abs, List, [], ◌∷◌, map, filter, length, get_or, Option, Some, None}
 use Rattle.std.specs.List.{AllByRecursion}
 use Rattle.std.specs.Ordering.{is_eq}
 use Rattle.exact_sums.specs.Saturating.{overflow}
@@ -111,3 +112,7 @@ pub record IsRun (g : GroveContent) (xs : List (Extracted × ℕ)) (f : ForestId
   pub numbers : AllByRecursion (λ e. IsCoefficient e.coefficient) es
   pub forest : AllByRecursion (λ e. e.forest ≡ f) es
   pub listed : AllByRecursion (λ x. IsIn x xs) (pairs_in g es)
+
+pub record IsRunOf (g : GroveContent) (xs : List (Extracted × ℕ)) (es : List ExtractTerm) : Type 0 where
+  pub some : 0 < length es
+  pub forest : (d : ExtractTerm) → IsRun g xs (get_or es 0 d).forest es

@@ -4,7 +4,9 @@
 mod antipodes;
 mod error;
 mod holding;
+mod keeping;
 mod quotient;
+mod recursion;
 mod runs;
 mod value;
 

@@ -1,15 +1,16 @@
 // The sum of the quotients of terms with one forest.
-ghost use Rattle.std.specs.Prelude.{unsigned_abs, IfOk, IsOkUnless};
+ghost use Rattle.std.specs.Prelude.{◌≤◌, ◌<◌, ◌≡◌, unsigned_abs, length, take, get_or, IfOk, IsOkUnless};
 ghost use Rattle.std.specs.List.{AllByRecursion};
 ghost use Rattle.tree_pool.specs.Content.{tree_at};
 ghost use Rattle.antipode_laws.specs.Weighed.{Weighed};
-ghost use Rattle.twisted_antipode.specs.Values.{IsValueOf, IsKept, sum_of};
+ghost use Rattle.twisted_antipode.specs.Values.{IsValueOf, IsKept, sum_of, product_of, negative_of};
 ghost use Rattle.twisted_antipode.specs.Quotients.{quotient_value};
+ghost use Rattle.extraction_coproduct.specs.declared.ExtractTerm.{ExtractTerm};
 ghost use Rattle.twisted_antipode.specs.RunTerms.{IsCoefficient, IsRunTerm, quotients_in, multiple_of, run_value};
 
 use crate::error::AntipodeError;
 use crate::quotient::{Reading, nothing, quotient};
-use crate::value::{Value, sum};
+use crate::value::{Value, negative, product, sum};
 use extraction_coproduct::ExtractTerm;
 use std::alloc::Global;
 use symbol_polys::{PolyError, scale};
@@ -73,4 +74,40 @@ pub(crate) fn quotients(
         total = with_quotient(alloc, reading, pool, &total, term)?;
     }
     Ok(total)
+}
+
+/// A sum with minus the product of the quotients and the forest of a run.
+pub(crate) fn with_product(
+    alloc: Global,
+    total: &Value,
+    quotients: &Value,
+    forest: &Value,
+) -> Result<Value, AntipodeError>
+    requires total { IsKept total.now }
+    requires quotients { IsKept quotients.now }
+    requires forest { IsKept forest.now }
+    ensures kept { IfOk result IsKept }
+    ensures value { IfOk result (λ v. (w q f : Weighed) → IsValueOf w total.now →
+        IsValueOf q quotients.now → IsValueOf f forest.now →
+        IsValueOf (sum_of w (negative_of (product_of f q))) v) }
+    ensures memory { IsOkUnless result AntipodeError.Memory }
+{
+    let all = product(alloc, forest, quotients)?;
+    let minus = negative(alloc, &all)?;
+    Ok(sum(alloc, total, &minus)?)
+}
+
+/// How many terms from the first on have its forest.
+pub(crate) fn run_length(terms: &[ExtractTerm]) -> usize
+    requires { 0 < length terms.now }
+    ensures some { 0 < result }
+    ensures most { result ≤ length terms.now }
+    ensures forest { (d : ExtractTerm) → AllByRecursion (λ e. e.forest ≡ (get_or terms.now 0 d).forest) (take result terms.now) }
+{
+    let forest = terms[0].forest;
+    let mut i = 1;
+    while i < terms.len() && terms[i].forest == forest {
+        i += 1;
+    }
+    i
 }

@@ -1,5 +1,5 @@
 // Values of trees, and their arithmetic. A value whose mass is out of range is one all the same: times 0 it is 0.
-ghost use Rattle.std.specs.Prelude.{◌≤◌, IfOk, IsOkUnless};
+ghost use Rattle.std.specs.Prelude.{◌≡◌, ◌≤◌, IfOk, IsOkUnless, IsTrue};
 ghost use Rattle.exact_sums.specs.Saturating.{overflow};
 ghost use Rattle.symbol_polys.specs.View.{IsPoly};
 ghost use Rattle.antipode_laws.specs.Weighed.{Weighed, unit};
@@ -98,6 +98,22 @@ pub(crate) fn negative(alloc: Global, a: &Value) -> Result<Value, PolyError>
     }
 }
 
+/// A copy of a polynomial, as a value.
+pub(crate) fn copy_poly(alloc: Global, f: &Poly) -> Result<Value, PolyError>
+    requires { IsPoly f.now }
+    ensures kept { IfOk result IsKept }
+    ensures value { IfOk result (λ v. (w : Weighed) → w.mass ≤ overflow → IsPolyOf w f.now →
+        IsValueOf w v) }
+    ensures range { IfOk result IsInRange }
+    ensures memory { IsOkUnless result PolyError.Memory }
+{
+    match scale(alloc, f, 1) {
+        Ok(p) => Ok(Value::Sum(p)),
+        Err(PolyError::CoefficientTooLarge) => Ok(Value::TooLarge),
+        Err(e) => Err(e),
+    }
+}
+
 /// A copy of a value.
 pub(crate) fn copy(alloc: Global, a: &Value) -> Result<Value, PolyError>
     requires a { IsKept a.now }
@@ -108,11 +124,17 @@ pub(crate) fn copy(alloc: Global, a: &Value) -> Result<Value, PolyError>
     ensures memory { IsOkUnless result PolyError.Memory }
 {
     match a {
-        Value::Sum(f) => match scale(alloc, f, 1) {
-            Ok(p) => Ok(Value::Sum(p)),
-            Err(PolyError::CoefficientTooLarge) => Ok(Value::TooLarge),
-            Err(e) => Err(e),
-        },
+        Value::Sum(f) => copy_poly(alloc, f),
         Value::TooLarge => Ok(Value::TooLarge),
+    }
+}
+
+/// Whether a value is 0.
+pub(crate) fn is_nothing(a: &Value) -> bool
+    ensures { IsTrue result → (w : Weighed) → IsValueOf w a.now → w.mass ≡ 0 }
+{
+    match a {
+        Value::Sum(f) => f.mass == 0,
+        Value::TooLarge => false,
     }
 }
