@@ -104,7 +104,7 @@ last_some c (k ∷ hs) i w u t h =
       | false ↦ λ e. last_some c hs i w u t e
     ]) h
 
-same_poly : (w : Weighed) (p : Poly) → IsPolyOf w p → AreSameValues (weighed_of p) w
+pub same_poly : (w : Weighed) (p : Poly) → IsPolyOf w p → AreSameValues (weighed_of p) w
 same_poly w p h = record { coefficients = h.coefficients; mass = mass_is w p h }
 
 pub good_more : (r : Reading) (c : Content) (hs : List Held) (a : Plain → Weighed) (i : ℕ) (p : Poly) → first_held hs i ≡ None → IsPolyOf (a (tree_at c i)) p → IsGood r c hs a →
@@ -121,18 +121,18 @@ good_more r c hs a i p none value h =
       solves = λ t k e. h.solves t k (last_none c hs i (weighed_of p) t (ap (λ (ls : List Held). held_over c ls t) (sym last) ∙ e));
     }
 
-in_last : (h k : Held) (hs : List Held) → IsIn h (hs ++ k ∷ []) → IsIn h hs ⊎ (h ≡ k)
+pub in_last : (h k : Held) (hs : List Held) → IsIn h (hs ++ k ∷ []) → IsIn h hs ⊎ (h ≡ k)
 in_last h k [] (inl e) = inr (sym e)
 in_last h k [] (inr e) = absurd e
 in_last h k (l ∷ hs) (inl e) = inl (inl e)
 in_last h k (l ∷ hs) (inr e) = elim (in_last h k hs e) [ inl i ↦ inl (inr i) | inr i ↦ inr i ]
 
-in_front : (h k : Held) (hs : List Held) → IsIn h hs → IsIn h (hs ++ k ∷ [])
+pub in_front : (h k : Held) (hs : List Held) → IsIn h hs → IsIn h (hs ++ k ∷ [])
 in_front h k [] e = absurd e
 in_front h k (l ∷ hs) (inl e) = inl e
 in_front h k (l ∷ hs) (inr e) = inr (in_front h k hs e)
 
-well_last : (c : Content) (hs : List Held) (k : Held) → AreWellHeld c hs → IsWellHeld c k → AreWellHeld c (hs ++ k ∷ [])
+pub well_last : (c : Content) (hs : List Held) (k : Held) → AreWellHeld c hs → IsWellHeld c k → AreWellHeld c (hs ++ k ∷ [])
 well_last c [] k h l = (l, tt)
 well_last c (m ∷ hs) k h l = (h.0, well_last c hs k h.1 l)
 

@@ -4,3 +4,5 @@ pub mod Entries
 pub mod RunSums
 pub mod KnownLaws
 pub mod Keepings
+pub mod PartLaws
+pub mod ValueLaws

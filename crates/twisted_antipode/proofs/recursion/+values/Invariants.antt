@@ -30,18 +30,18 @@ abbrev pub invariant-sum_of_runs-loop-left : goal.invariant-sum_of_runs-loop-lef
 invariant-sum_of_runs-loop-left l = record {
   kept : IsKept l.total;
   done : List (Extracted × ℕ);
-  terms : done ++ pairs_in (grove_of l.tables) l.left.now ≡ coproduct_of l.fn.tables.pool l.id.0;
+  terms : done ++ pairs_in (grove_of l.tables) l.left ≡ coproduct_of l.fn.tables.pool l.id.0;
   value : (a : Plain → Weighed) → IsGood l.reading l.fn.tables.pool l.fn.memo a →
       IsValueOf (part_value l.reading l.fn.tables.pool.types a (other_pairs (tree_at l.fn.tables.pool l.id.0) done)) l.total;
-  listed : AreKnownTerms (grove_of l.tables) l.left.now;
-  numbers : AllByRecursion (λ e. IsCoefficient e.coefficient) l.left.now;
+  listed : AreKnownTerms (grove_of l.tables) l.left;
+  numbers : AllByRecursion (λ e. IsCoefficient e.coefficient) l.left;
   more : IsKnownMore l.reading l.fn.tables.pool l.tables.pool l.fn.memo l.memo;
   grown : AreGrown l.fn.tables l.tables;
   count : l.fn.work.tables ≤ l.work.tables;
 }
 
 abbrev pub decreases-sum_of_runs-loop-left : goal.decreases-sum_of_runs-loop-left
-decreases-sum_of_runs-loop-left l = length l.left.now
+decreases-sum_of_runs-loop-left l = length l.left
 
 abbrev pub invariant-forest_value-loop-i : goal.invariant-forest_value-loop-i
 invariant-forest_value-loop-i l = record {
