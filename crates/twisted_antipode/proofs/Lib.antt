@@ -6,3 +6,4 @@ pub mod KnownLaws
 pub mod Keepings
 pub mod PartLaws
 pub mod ValueLaws
+pub mod RecursionLaws

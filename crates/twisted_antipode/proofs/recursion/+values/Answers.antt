@@ -1,6 +1,62 @@
-use Rattle.twisted_antipode.proofs.PartLaws.{forest_step, run_pairs, run_added, run_passed, nothing_passed, parts_joined, others_none, others_all, is_whole, parts_of_both}
-use Rattle.twisted_antipode.proofs.ValueLaws.{at_held, at_empty, at_sum, more_kept, from_parts}
+use Rattle.std.proofs.Common.{◌≡◌, ℕ, ◌+◌, ◌-◌, ◌*◌, ◌<◌, ◌≤◌, length, get_or, ap, sym, ◌∙◌, subst, arith, true, false}
+use Rattle.plain_trees.specs.Plain.{Plain}
+use Rattle.tree_pool.specs.Content.{tree_at}
+use Rattle.tree_pool.proofs.Growth.{grown_at, grown_refl}
+use Rattle.antipode_laws.specs.Weighed.{Weighed}
+use Rattle.twisted_antipode.specs.Known.{rank}
+use Rattle.twisted_antipode.proofs.KnownLaws.{more_trans, more_grown}
+use Rattle.twisted_antipode.proofs.PartLaws.{nothing_passed}
+use Rattle.twisted_antipode.proofs.ValueLaws.{at_held, at_empty, at_sum, more_kept}
+use Rattle.twisted_antipode.proofs.RecursionLaws.{no_tree, part_asked, forest_more}
 use Rattle.twisted_antipode.proofs.recursion.+values.Goals as goal
 
-pub forest_value-loop-i-preserved : goal.forest_value-loop-i-preserved
-forest_value-loop-i-preserved t c = ?
+pub forest_value-value_at-requires : goal.forest_value-value_at-requires
+forest_value-value_at-requires t c =
+    let pool = c.args.tables.now.pool in
+    let most = c.loop-i.invariant.most in
+    let lt : c.loop-i.i - 1 < length c.args.trees.now = omega (arith, most, c.loop-i-test.true) in
+    let asked = part_asked pool c.loop-i.tables.pool (tree_at pool c.args.id.0) c.args.trees.now (c.loop-i.i - 1) c.loop-i.invariant.grown.pool c.requires.parts lt in
+    let falls = asked.falls in
+    (omega (arith, falls), (asked.known, (asked.bounded, c.loop-i.invariant.more.held)))
+
+pub forest_value-returns-in_err-value-clause-more : goal.forest_value-returns-in_err-value-clause-more
+forest_value-returns-in_err-value-clause-more t c =
+    more_trans c.args.reading c.args.tables.now.pool c.loop-i.tables.pool c.value_at.new.tables.pool c.args.memo.now c.loop-i.memo c.value_at.new.memo c.value_at.ensures.grown.pool
+    c.loop-i.invariant.more c.value_at.ensures.more
+
+pub forest_value-returns-in_err-all-2-clause-more : goal.forest_value-returns-in_err-all-2-clause-more
+forest_value-returns-in_err-all-2-clause-more t c =
+    more_trans c.args.reading c.args.tables.now.pool c.loop-i.tables.pool c.value_at.new.tables.pool c.args.memo.now c.loop-i.memo c.value_at.new.memo c.value_at.ensures.grown.pool
+    c.loop-i.invariant.more c.value_at.ensures.more
+
+pub value_at-returns-in-Some-clause-value : goal.value_at-returns-in-Some-clause-value
+value_at-returns-in-Some-clause-value t c = ?
+
+pub value_at-returns-then-is_empty-clause-value : goal.value_at-returns-then-is_empty-clause-value
+value_at-returns-then-is_empty-clause-value t c = ?
+
+pub value_at-returns-clause-value : goal.value_at-returns-clause-value
+value_at-returns-clause-value t c = ?
+
+pub value_at-returns-clause-more : goal.value_at-returns-clause-more
+value_at-returns-clause-more t c = ?
+
+pub forest_value-loop-i-preserved-in_ok-all-2 : goal.forest_value-loop-i-preserved-in_ok-all-2
+forest_value-loop-i-preserved-in_ok-all-2 t c =
+    let pool = c.args.tables.now.pool in
+    let most = c.loop-i.invariant.most in
+    let lt : c.loop-i.i - 1 < length c.args.trees.now = omega (arith, most, c.loop-i-test.true) in
+    let one : c.loop-i.i - 1 + 1 ≡ c.loop-i.i = omega (arith, c.loop-i-test.true) in
+    let before = c.loop-i.invariant.count in
+    let after = c.value_at.ensures.count in
+    record {
+      most = omega (arith, most);
+      kept = c.in_ok-all-2.ensures.kept;
+      value = λ a h.
+          forest_more pool c.loop-i.tables.pool (tree_at pool c.args.id.0) c.args.trees.now c.loop-i.i (c.loop-i.i - 1) a c.in_ok-value.value c.loop-i.all c.in_ok-all-2.all
+          c.loop-i.invariant.grown.pool c.requires.parts one lt (c.in_ok-value.ensures.value a (c.loop-i.invariant.more.good a h)) (c.loop-i.invariant.value a h) c.in_ok-all-2.ensures.value;
+      more = more_trans c.args.reading pool c.loop-i.tables.pool c.value_at.new.tables.pool c.args.memo.now c.loop-i.memo c.value_at.new.memo c.value_at.ensures.grown.pool
+          c.loop-i.invariant.more c.value_at.ensures.more;
+      grown = ?;
+      count = omega (arith, before, after);
+    }

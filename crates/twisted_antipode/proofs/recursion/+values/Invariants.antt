@@ -12,19 +12,19 @@ use Rattle.twisted_antipode.specs.Known.{IsGood, IsKnownMore, pairs_in, other_pa
 use Rattle.twisted_antipode.proofs.recursion.+values.Given as goal
 
 abbrev pub decreases-value_at : goal.decreases-value_at
-decreases-value_at l = 4 * rank (tree_at l.tables.now.pool l.id.0) + 4
+decreases-value_at l = 5 * rank (tree_at l.tables.now.pool l.id.0) + 4
 
 abbrev pub decreases-new_value : goal.decreases-new_value
-decreases-new_value l = 4 * rank (tree_at l.tables.now.pool l.id.0) + 3
+decreases-new_value l = 5 * rank (tree_at l.tables.now.pool l.id.0) + 3
 
 abbrev pub decreases-sum_of_runs : goal.decreases-sum_of_runs
-decreases-sum_of_runs l = 4 * rank (tree_at l.tables.now.pool l.id.0) + 2
+decreases-sum_of_runs l = 5 * rank (tree_at l.tables.now.pool l.id.0) + 2
 
 abbrev pub decreases-with_run : goal.decreases-with_run
-decreases-with_run l = 4 * rank (tree_at l.tables.now.pool l.id.0) + 1
+decreases-with_run l = 5 * rank (tree_at l.tables.now.pool l.id.0) + 1
 
 abbrev pub decreases-forest_value : goal.decreases-forest_value
-decreases-forest_value l = 4 * rank (tree_at l.tables.now.pool l.id.0)
+decreases-forest_value l = 5 * rank (tree_at l.tables.now.pool l.id.0)
 
 abbrev pub invariant-sum_of_runs-loop-left : goal.invariant-sum_of_runs-loop-left
 invariant-sum_of_runs-loop-left l = record {
