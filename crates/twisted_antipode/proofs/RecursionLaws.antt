@@ -1,5 +1,5 @@
 -- Steps of the recursion: trees of a forest, and terms of a coproduct.
-use Rattle.std.proofs.Common.{◌≡◌, ℕ, zero, suc, ◌+◌, ◌*◌, ◌<◌, ◌≤◌, ℤ, pos, unsigned_abs, inl, inr, Bool, true, false, cond, List, [], ◌∷◌, map, drop, get_or, length, refl, sym, ap, ◌∙◌, subst, arith, Result, Ok, Err, IfOk}
+use Rattle.std.proofs.Common.{◌≡◌, ℕ, zero, suc, ◌+◌, ◌*◌, ◌<◌, ◌≤◌, ℤ, pos, unsigned_abs, inl, inr, Bool, true, false, cond, List, [], ◌∷◌, map, drop, get_or, length, refl, sym, ap, ◌∙◌, subst, arith, Result, Ok, Err, IfOk, Option, Some, None, MatchOption, ◌++◌, append_assoc}
 use Rattle.std.specs.List.{AllByRecursion}
 use Rattle.std.proofs.lemmas.Grind.{common_steps}
 use Rattle.std.proofs.lemmas.Int.{ints}
@@ -10,10 +10,10 @@ use Rattle.plain_trees.specs.Coproducts.{Extracted, extraction_terms}
 use Rattle.tree_pool.specs.Content.{Content, IsGrown, tree_at, trees_of}
 use Rattle.tree_pool.specs.Forests.{numbers}
 use Rattle.tree_pool.specs.declared.TreeId.{TreeId}
-use Rattle.tree_pool.proofs.Growth.{grown_at, grown_length}
+use Rattle.tree_pool.proofs.Growth.{grown_at, grown_length, grown_trans}
 use Rattle.cutting_sizes.specs.Bounds.{IsBounded, IsSmaller}
 use Rattle.cutting_sizes.specs.Sizes.{node_sum}
-use Rattle.pooled_cuttings.specs.Groves.{GroveContent}
+use Rattle.pooled_cuttings.specs.Groves.{GroveContent, IsGrownGrove}
 use Rattle.extraction_coproduct.specs.declared.ExtractTerm.{ExtractTerm}
 use Rattle.extraction_coproduct.specs.Finished.{coproduct_of}
 use Rattle.extraction_coproduct.specs.Terms.{terms_in, whole_terms, key_of}
@@ -96,3 +96,13 @@ coproduct_stays c d i g l = ap (λ (ty : Types). extraction_terms ty (tree_at d 
 pub if_ok : {T E : Type 0} (r : Result T E) (P R : T → Type 0) → ((v : T) → P v → R v) → IfOk r P → IfOk r R
 if_ok (Ok v) P R f h = f v h
 if_ok (Err e) P R f h = tt
+
+pub grove_trans : (f g h : GroveContent) → IsGrownGrove f g → IsGrownGrove g h → IsGrownGrove f h
+grove_trans f g h m n = record {
+  pool = grown_trans f.pool g.pool h.pool m.pool n.pool;
+  forests = (m.forests.0 ++ n.forests.0, n.forests.1 ∙ ap (λ (xs : List (List ℕ)). xs ++ n.forests.0) m.forests.1 ∙ append_assoc f.forests m.forests.0 n.forests.0);
+}
+
+pub some_value : {V A : Type 0} (P : V → Type 0) (o : Option V) (v : V) → o ≡ Some v → MatchOption o A P → P v
+some_value P None v e h = absurd cc
+some_value P (Some u) v e h = (let same : u ≡ v = cc in subst P same h)

@@ -3,11 +3,12 @@ use Rattle.plain_trees.specs.Plain.{Plain}
 use Rattle.tree_pool.specs.Content.{tree_at}
 use Rattle.tree_pool.proofs.Growth.{grown_at, grown_refl}
 use Rattle.antipode_laws.specs.Weighed.{Weighed}
-use Rattle.twisted_antipode.specs.Known.{rank}
+use Rattle.twisted_antipode.specs.Known.{rank, IsHeldAs}
+use Rattle.extraction_coproduct.specs.Finished.{grove_of}
 use Rattle.twisted_antipode.proofs.KnownLaws.{more_trans, more_grown}
 use Rattle.twisted_antipode.proofs.PartLaws.{nothing_passed}
 use Rattle.twisted_antipode.proofs.ValueLaws.{at_held, at_empty, at_sum, more_kept}
-use Rattle.twisted_antipode.proofs.RecursionLaws.{no_tree, part_asked, forest_more}
+use Rattle.twisted_antipode.proofs.RecursionLaws.{no_tree, part_asked, forest_more, grove_trans, some_value}
 use Rattle.twisted_antipode.proofs.recursion.+values.Goals as goal
 
 pub forest_value-value_at-requires : goal.forest_value-value_at-requires
@@ -30,7 +31,9 @@ forest_value-returns-in_err-all-2-clause-more t c =
     c.loop-i.invariant.more c.value_at.ensures.more
 
 pub value_at-returns-in-Some-clause-value : goal.value_at-returns-in-Some-clause-value
-value_at-returns-in-Some-clause-value t c = ?
+value_at-returns-in-Some-clause-value t c = λ a h.
+    at_held c.args.reading c.args.tables.now.pool c.args.memo.now c.args.id.0 c.in-Some.value a c.laws.ensures.grove.pooled c.requires.held c.requires.known
+    (some_value (IsHeldAs c.args.memo.now c.args.id.0) c.in_ok-value.field-0 c.in-Some.value c.in-Some.is c.in_ok-value.ensures.value) h
 
 pub value_at-returns-then-is_empty-clause-value : goal.value_at-returns-then-is_empty-clause-value
 value_at-returns-then-is_empty-clause-value t c = ?
@@ -57,6 +60,20 @@ forest_value-loop-i-preserved-in_ok-all-2 t c =
           c.loop-i.invariant.grown.pool c.requires.parts one lt (c.in_ok-value.ensures.value a (c.loop-i.invariant.more.good a h)) (c.loop-i.invariant.value a h) c.in_ok-all-2.ensures.value;
       more = more_trans c.args.reading pool c.loop-i.tables.pool c.value_at.new.tables.pool c.args.memo.now c.loop-i.memo c.value_at.new.memo c.value_at.ensures.grown.pool
           c.loop-i.invariant.more c.value_at.ensures.more;
-      grown = ?;
+      grown = grove_trans (grove_of c.args.tables.now) (grove_of c.loop-i.tables) (grove_of c.value_at.new.tables) c.loop-i.invariant.grown c.value_at.ensures.grown;
       count = omega (arith, before, after);
     }
+
+pub new_value-returns-in-Ok-clause-more : goal.new_value-returns-in-Ok-clause-more
+new_value-returns-in-Ok-clause-more t c =
+    let pool = c.args.tables.now.pool in
+    more_trans c.args.reading pool c.coproduct.new.self.pool c.sum_of_runs.new.tables.pool c.args.memo.now c.args.memo.now c.sum_of_runs.new.memo c.sum_of_runs.ensures.grown.pool
+    (more_grown c.args.reading pool c.coproduct.new.self.pool c.args.memo.now c.coproduct.ensures.grown.pool c.requires.held) c.sum_of_runs.ensures.more
+
+pub new_value-returns-in-Err-CoefficientTooLarge-clause-more : goal.new_value-returns-in-Err-CoefficientTooLarge-clause-more
+new_value-returns-in-Err-CoefficientTooLarge-clause-more t c =
+    more_grown c.args.reading c.args.tables.now.pool c.coproduct.new.self.pool c.args.memo.now c.coproduct.ensures.grown.pool c.requires.held
+
+pub new_value-returns-in-Err-Memory-clause-more : goal.new_value-returns-in-Err-Memory-clause-more
+new_value-returns-in-Err-Memory-clause-more t c =
+    more_grown c.args.reading c.args.tables.now.pool c.coproduct.new.self.pool c.args.memo.now c.coproduct.ensures.grown.pool c.requires.held
