@@ -103,6 +103,6 @@ grove_trans f g h m n = record {
   forests = (m.forests.0 ++ n.forests.0, n.forests.1 ∙ ap (λ (xs : List (List ℕ)). xs ++ n.forests.0) m.forests.1 ∙ append_assoc f.forests m.forests.0 n.forests.0);
 }
 
-pub some_value : {V A : Type 0} (P : V → Type 0) (o : Option V) (v : V) → o ≡ Some v → MatchOption o A P → P v
-some_value P None v e h = absurd cc
-some_value P (Some u) v e h = (let same : u ≡ v = cc in subst P same h)
+pub some_value : {V : Type 0} (A : Type 0) (P : V → Type 0) (o : Option V) (v : V) → o ≡ Some v → MatchOption o A P → P v
+some_value A P None v e h = absurd cc
+some_value A P (Some u) v e h = (let same : u ≡ v = cc in subst P same h)

@@ -1,9 +1,9 @@
-use Rattle.std.proofs.Common.{◌≡◌, ℕ, ◌+◌, ◌-◌, ◌*◌, ◌<◌, ◌≤◌, length, get_or, ap, sym, ◌∙◌, subst, arith, true, false}
+use Rattle.std.proofs.Common.{◌≡◌, ℕ, ◌+◌, ◌-◌, ◌*◌, ◌<◌, ◌≤◌, length, get_or, ap, sym, ◌∙◌, subst, arith, true, false, None}
 use Rattle.plain_trees.specs.Plain.{Plain}
 use Rattle.tree_pool.specs.Content.{tree_at}
 use Rattle.tree_pool.proofs.Growth.{grown_at, grown_refl}
 use Rattle.antipode_laws.specs.Weighed.{Weighed}
-use Rattle.twisted_antipode.specs.Known.{rank, IsHeldAs}
+use Rattle.twisted_antipode.specs.Known.{rank, IsHeldAs, first_held}
 use Rattle.extraction_coproduct.specs.Finished.{grove_of}
 use Rattle.twisted_antipode.proofs.KnownLaws.{more_trans, more_grown}
 use Rattle.twisted_antipode.proofs.PartLaws.{nothing_passed}
@@ -33,7 +33,7 @@ forest_value-returns-in_err-all-2-clause-more t c =
 pub value_at-returns-in-Some-clause-value : goal.value_at-returns-in-Some-clause-value
 value_at-returns-in-Some-clause-value t c = λ a h.
     at_held c.args.reading c.args.tables.now.pool c.args.memo.now c.args.id.0 c.in-Some.value a c.laws.ensures.grove.pooled c.requires.held c.requires.known
-    (some_value (IsHeldAs c.args.memo.now c.args.id.0) c.in_ok-value.field-0 c.in-Some.value c.in-Some.is c.in_ok-value.ensures.value) h
+    (some_value (first_held c.args.memo.now c.args.id.0 ≡ None) (IsHeldAs c.args.memo.now c.args.id.0) c.in_ok-value.field-0 c.in-Some.value c.in-Some.is c.in_ok-value.ensures.value) h
 
 pub value_at-returns-then-is_empty-clause-value : goal.value_at-returns-then-is_empty-clause-value
 value_at-returns-then-is_empty-clause-value t c = ?
@@ -46,6 +46,26 @@ value_at-returns-clause-more t c = ?
 
 pub forest_value-loop-i-preserved-in_ok-all-2 : goal.forest_value-loop-i-preserved-in_ok-all-2
 forest_value-loop-i-preserved-in_ok-all-2 t c =
+    let pool = c.args.tables.now.pool in
+    let most = c.loop-i.invariant.most in
+    let lt : c.loop-i.i - 1 < length c.args.trees.now = omega (arith, most, c.loop-i-test.true) in
+    let one : c.loop-i.i - 1 + 1 ≡ c.loop-i.i = omega (arith, c.loop-i-test.true) in
+    let before = c.loop-i.invariant.count in
+    let after = c.value_at.ensures.count in
+    record {
+      most = omega (arith, most);
+      kept = c.in_ok-all-2.ensures.kept;
+      value = λ a h.
+          forest_more pool c.loop-i.tables.pool (tree_at pool c.args.id.0) c.args.trees.now c.loop-i.i (c.loop-i.i - 1) a c.in_ok-value.value c.loop-i.all c.in_ok-all-2.all
+          c.loop-i.invariant.grown.pool c.requires.parts one lt (c.in_ok-value.ensures.value a (c.loop-i.invariant.more.good a h)) (c.loop-i.invariant.value a h) c.in_ok-all-2.ensures.value;
+      more = more_trans c.args.reading pool c.loop-i.tables.pool c.value_at.new.tables.pool c.args.memo.now c.loop-i.memo c.value_at.new.memo c.value_at.ensures.grown.pool
+          c.loop-i.invariant.more c.value_at.ensures.more;
+      grown = grove_trans (grove_of c.args.tables.now) (grove_of c.loop-i.tables) (grove_of c.value_at.new.tables) c.loop-i.invariant.grown c.value_at.ensures.grown;
+      count = omega (arith, before, after);
+    }
+
+pub forest_value-loop-i-preserved : goal.forest_value-loop-i-preserved
+forest_value-loop-i-preserved t c =
     let pool = c.args.tables.now.pool in
     let most = c.loop-i.invariant.most in
     let lt : c.loop-i.i - 1 < length c.args.trees.now = omega (arith, most, c.loop-i-test.true) in
