@@ -106,3 +106,7 @@ grove_trans f g h m n = record {
 pub some_value : {V : Type 0} (A : Type 0) (P : V → Type 0) (o : Option V) (v : V) → o ≡ Some v → MatchOption o A P → P v
 some_value A P None v e h = absurd cc
 some_value A P (Some u) v e h = (let same : u ≡ v = cc in subst P same h)
+
+pub no_value : {V : Type 0} (A : Type 0) (P : V → Type 0) (o : Option V) → ((v : V) → o ≡ Some v → ⊥) → MatchOption o A P → A
+no_value A P None none h = h
+no_value A P (Some u) none h = absurd (none u refl)

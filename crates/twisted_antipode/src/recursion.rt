@@ -55,6 +55,7 @@ pub(crate) fn value_at<'a>(
         return Ok(unit(alloc)?);
     }
     let value = new_value(alloc, reading, tables, memo, id, work)?;
+    tables.laws();
     keep(alloc, memo, id, &value)?;
     Ok(value)
 }

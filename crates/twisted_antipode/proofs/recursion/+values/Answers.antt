@@ -1,14 +1,16 @@
 use Rattle.std.proofs.Common.{◌≡◌, ℕ, ◌+◌, ◌-◌, ◌*◌, ◌<◌, ◌≤◌, length, get_or, ap, sym, ◌∙◌, subst, arith, true, false, None}
 use Rattle.plain_trees.specs.Plain.{Plain}
-use Rattle.tree_pool.specs.Content.{tree_at}
-use Rattle.tree_pool.proofs.Growth.{grown_at, grown_refl}
+use Rattle.tree_pool.specs.Content.{Content, tree_at}
+use Rattle.tree_pool.proofs.Growth.{grown_at, grown_length}
 use Rattle.antipode_laws.specs.Weighed.{Weighed}
-use Rattle.twisted_antipode.specs.Known.{rank, IsHeldAs, first_held}
+use Rattle.twisted_antipode.specs.Known.{rank, IsHeldAs, first_held, IsGood}
+use Rattle.twisted_antipode.specs.Values.{IsValueOf}
+use Rattle.plain_trees.specs.Degree.{is_empty_tree}
 use Rattle.extraction_coproduct.specs.Finished.{grove_of}
 use Rattle.twisted_antipode.proofs.KnownLaws.{more_trans, more_grown}
 use Rattle.twisted_antipode.proofs.PartLaws.{nothing_passed}
 use Rattle.twisted_antipode.proofs.ValueLaws.{at_held, at_empty, at_sum, more_kept}
-use Rattle.twisted_antipode.proofs.RecursionLaws.{no_tree, part_asked, forest_more, grove_trans, some_value}
+use Rattle.twisted_antipode.proofs.RecursionLaws.{no_tree, part_asked, forest_more, grove_trans, some_value, no_value}
 use Rattle.twisted_antipode.proofs.recursion.+values.Goals as goal
 
 pub forest_value-value_at-requires : goal.forest_value-value_at-requires
@@ -36,13 +38,35 @@ value_at-returns-in-Some-clause-value t c = λ a h.
     (some_value (first_held c.args.memo.now c.args.id.0 ≡ None) (IsHeldAs c.args.memo.now c.args.id.0) c.in_ok-value.field-0 c.in-Some.value c.in-Some.is c.in_ok-value.ensures.value) h
 
 pub value_at-returns-then-is_empty-clause-value : goal.value_at-returns-then-is_empty-clause-value
-value_at-returns-then-is_empty-clause-value t c = ?
+value_at-returns-then-is_empty-clause-value t c = λ a h.
+    let pool = c.args.tables.now.pool in
+    let empty : is_empty_tree (tree_at pool c.args.id.0) ≡ true = ap (λ (d : Content). is_empty_tree (tree_at d c.args.id.0)) (sym c.pool-2.ensures) ∙ sym c.is_empty.ensures ∙ c.if-is_empty.true in
+    at_empty c.args.reading pool c.args.memo.now c.args.id.0 c.in_ok-unit.field-0 a c.laws.ensures.grove.pooled c.requires.held c.requires.known
+    (no_value (first_held c.args.memo.now c.args.id.0 ≡ None) (IsHeldAs c.args.memo.now c.args.id.0) c.in_ok-value.field-0 c.in_default.not-Some c.in_ok-value.ensures.value) empty c.in_ok-unit.ensures.value h
+
+found : (t : ℕ) (c : goal.value_at-In_ok-keep t) (a : Plain → Weighed) → IsGood c.args.reading c.args.tables.now.pool c.args.memo.now a → IsValueOf (a (tree_at c.args.tables.now.pool c.args.id.0)) c.in_ok-value-2.value
+found t c a h =
+    let pool = c.args.tables.now.pool in
+    let empty : is_empty_tree (tree_at pool c.args.id.0) ≡ false = ap (λ (d : Content). is_empty_tree (tree_at d c.args.id.0)) (sym c.pool-2.ensures) ∙ sym c.is_empty.ensures ∙ c.if-is_empty.false in
+    at_sum c.args.reading pool c.args.memo.now c.args.id.0 c.in_ok-value-2.value a c.laws.ensures.grove.pooled c.requires.held c.requires.known
+    (no_value (first_held c.args.memo.now c.args.id.0 ≡ None) (IsHeldAs c.args.memo.now c.args.id.0) c.in_ok-value.field-0 c.in_default.not-Some c.in_ok-value.ensures.value) empty (c.in_ok-value-2.ensures.value a h) h
 
 pub value_at-returns-clause-value : goal.value_at-returns-clause-value
-value_at-returns-clause-value t c = ?
+value_at-returns-clause-value t c = λ a h. found t c a h
+
+pub value_at-returns-in_err-keep-clause-more : goal.value_at-returns-in_err-keep-clause-more
+value_at-returns-in_err-keep-clause-more t c = ?
 
 pub value_at-returns-clause-more : goal.value_at-returns-clause-more
-value_at-returns-clause-more t c = ?
+value_at-returns-clause-more t c =
+    let pool = c.args.tables.now.pool in
+    let new = c.new_value.new.tables.pool in
+    let grown = c.in_ok-value-2.ensures.grown.pool in
+    let more = grown_length pool new grown in
+    let known = c.requires.known in
+    more_kept c.args.reading pool new c.args.memo.now c.new_value.new.memo c.keep.new.memo c.args.id.0 c.in_ok-value-2.value c.laws-2.ensures.grove.pooled (omega (arith, more, known))
+    c.in_ok-value-2.ensures.more c.keep.ensures.held
+    (λ a h. subst (λ (s : Plain). IsValueOf (a s) c.in_ok-value-2.value) (sym (grown_at pool new c.args.id.0 grown known)) (found t c a h))
 
 pub forest_value-loop-i-preserved-in_ok-all-2 : goal.forest_value-loop-i-preserved-in_ok-all-2
 forest_value-loop-i-preserved-in_ok-all-2 t c =
@@ -97,3 +121,8 @@ new_value-returns-in-Err-CoefficientTooLarge-clause-more t c =
 pub new_value-returns-in-Err-Memory-clause-more : goal.new_value-returns-in-Err-Memory-clause-more
 new_value-returns-in-Err-Memory-clause-more t c =
     more_grown c.args.reading c.args.tables.now.pool c.coproduct.new.self.pool c.args.memo.now c.coproduct.ensures.grown.pool c.requires.held
+
+pub sum_of_runs-returns-in_err-total-2-clause-more : goal.sum_of_runs-returns-in_err-total-2-clause-more
+sum_of_runs-returns-in_err-total-2-clause-more t c =
+    more_trans c.args.reading c.args.tables.now.pool c.loop-left.tables.pool c.with_run.new.tables.pool c.args.memo.now c.loop-left.memo c.with_run.new.memo c.with_run.ensures.grown.pool
+    c.loop-left.invariant.more c.with_run.ensures.more
