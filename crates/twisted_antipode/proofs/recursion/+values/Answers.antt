@@ -55,7 +55,18 @@ pub value_at-returns-clause-value : goal.value_at-returns-clause-value
 value_at-returns-clause-value t c = λ a h. found t c a h
 
 pub value_at-returns-in_err-keep-clause-more : goal.value_at-returns-in_err-keep-clause-more
-value_at-returns-in_err-keep-clause-more t c = ?
+value_at-returns-in_err-keep-clause-more t c =
+    let pool = c.args.tables.now.pool in
+    let new = c.new_value.new.tables.pool in
+    let grown = c.in_ok-value-2.ensures.grown.pool in
+    let longer = grown_length pool new grown in
+    let known = c.requires.known in
+    let empty : is_empty_tree (tree_at pool c.args.id.0) ≡ false = ap (λ (d : Content). is_empty_tree (tree_at d c.args.id.0)) (sym c.pool-2.ensures) ∙ sym c.is_empty.ensures ∙ c.if-is_empty.false in
+    more_kept c.args.reading pool new c.args.memo.now c.new_value.new.memo c.keep.new.memo c.args.id.0 c.in_ok-value-2.value c.laws-2.ensures.grove.pooled (omega (arith, longer, known))
+    c.in_ok-value-2.ensures.more c.keep.ensures.held
+    (λ a h. subst (λ (s : Plain). IsValueOf (a s) c.in_ok-value-2.value) (sym (grown_at pool new c.args.id.0 grown known))
+    (at_sum c.args.reading pool c.args.memo.now c.args.id.0 c.in_ok-value-2.value a c.laws.ensures.grove.pooled c.requires.held known
+    (no_value (first_held c.args.memo.now c.args.id.0 ≡ None) (IsHeldAs c.args.memo.now c.args.id.0) c.in_ok-value.field-0 c.in_default.not-Some c.in_ok-value.ensures.value) empty (c.in_ok-value-2.ensures.value a h) h))
 
 pub value_at-returns-clause-more : goal.value_at-returns-clause-more
 value_at-returns-clause-more t c =
