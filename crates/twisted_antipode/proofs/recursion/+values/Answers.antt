@@ -1,7 +1,7 @@
-use Rattle.std.proofs.Common.{◌≡◌, ℕ, ◌+◌, ◌-◌, ◌*◌, ◌<◌, ◌≤◌, length, get_or, ap, sym, ◌∙◌, subst, arith, true, false, None}
+use Rattle.std.proofs.Common.{◌≡◌, ℕ, ◌+◌, ◌-◌, ◌*◌, ◌<◌, ◌≤◌, length, get_or, ap, sym, ◌∙◌, subst, arith, true, false, None, [], append-nil}
 use Rattle.plain_trees.specs.Plain.{Plain}
 use Rattle.tree_pool.specs.Content.{Content, tree_at}
-use Rattle.tree_pool.proofs.Growth.{grown_at, grown_length}
+use Rattle.tree_pool.proofs.Growth.{grown_at, grown_length, grown_refl}
 use Rattle.antipode_laws.specs.Weighed.{Weighed}
 use Rattle.twisted_antipode.specs.Known.{rank, IsHeldAs, first_held, IsGood}
 use Rattle.twisted_antipode.specs.Values.{IsValueOf}
@@ -137,3 +137,18 @@ pub sum_of_runs-returns-in_err-total-2-clause-more : goal.sum_of_runs-returns-in
 sum_of_runs-returns-in_err-total-2-clause-more t c =
     more_trans c.args.reading c.args.tables.now.pool c.loop-left.tables.pool c.with_run.new.tables.pool c.args.memo.now c.loop-left.memo c.with_run.new.memo c.with_run.ensures.grown.pool
     c.loop-left.invariant.more c.with_run.ensures.more
+
+pub sum_of_runs-loop-left-init : goal.sum_of_runs-loop-left-init
+sum_of_runs-loop-left-init t c =
+    let pool = c.args.tables.now.pool in
+    record {
+      kept = c.in_ok-total.ensures.kept;
+      done = [];
+      terms = c.requires.terms;
+      value = λ a h. c.in_ok-total.ensures.value;
+      listed = c.requires.listed;
+      numbers = c.requires.numbers;
+      more = more_grown c.args.reading pool pool c.args.memo.now (grown_refl pool) c.requires.held;
+      grown = record { pool = grown_refl pool; forests = ([], sym (append-nil c.args.tables.now.forests)) };
+      count = omega arith;
+    }
