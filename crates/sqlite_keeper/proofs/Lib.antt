@@ -8,6 +8,7 @@ mod Within
 mod Counting
 mod ResultRows
 mod Making
+mod Moving
 mod Telling
 mod Finding
 mod Sorting
