@@ -1,7 +1,7 @@
 -- What the statements that make the tables leave.
 use Rattle.std.proofs.Common.{◌≡◌, ◌≢◌, ℕ, codes, List, [], map, false, All, None, Ok, refl, sym, ap, subst, ◌∙◌, arith}
 use Rattle.std.specs.List.{IsDistinct}
-use Rattle.std.specs.FinMap.{empty, from_entries}
+use Rattle.std.specs.FinMap.{from_entries}
 use Rattle.sqlite.specs.Order.{Row}
 use Rattle.sqlite.specs.Table.{Table}
 use Rattle.sqlite.specs.Schema.{Schema}
@@ -122,9 +122,6 @@ made_empty a b c d p r s =
       results = results;
     }
 
-pub empty_tables : (db : Database) → IsEmptyStore db → HasTables empty empty db
-empty_tables db e = record { is = e.is; projects = ap (λ l. from_entries (map project_entry l)) e.projects; rows = ap (λ l. from_entries (map result_entry l)) e.results }
-
 -- what has the same projects and results is a store with the same tables
 pub same_tables : (a b : Database) → IsStore a → b.schema ≡ store_schema → project_rows b ≡ project_rows a → result_rows b ≡ result_rows a → HasTables (projects_in a) (results_in a) b
 same_tables a b is schema projects results = record {
@@ -157,9 +154,3 @@ version_kept old new count is h =
     let done = subst (λ s. Does old.step_limit (mode_of old) [] (record old.now { schema = s }) text None command (Ok (w.tally, new.now))) is.schema w.changed in
     let it = adds old.step_limit (mode_of old).keys (mode_of old) [] numbered_store.name 4 numbered_store.columns numbered_store.key numbered_store.primary [] [] numbered_store.checks 2 (Values version_terms 3) db w.tally new.now done in
     same_tables old.now new.now is it.schema (it.others.0 not_four) (it.others.1.0 two_not_four)
-
-pub same_again : (a b c : Database) → b ≡ a → HasTables (projects_in b) (results_in b) c → HasTables (projects_in a) (results_in a) c
-same_again a b c same t = subst (λ d. HasTables (projects_in d) (results_in d) c) same t
-
-pub unchanged_tables : (a b : Database) → IsStore a → b ≡ a → HasTables (projects_in a) (results_in a) b
-unchanged_tables a b is same = subst (λ d. HasTables (projects_in a) (results_in a) d) (sym same) (record { is = is; projects = refl; rows = refl })

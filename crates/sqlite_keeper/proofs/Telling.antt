@@ -199,14 +199,6 @@ told_becomes steady old a b f g =
 pub told_stays : (steady old : Bool) (a b : Database) → (steady ≡ true → IsStore a → b ≡ a) → Stays (told_of steady old a) (told_of steady old b)
 told_stays steady old a b f = told_becomes steady old a b (λ k. k) (λ s is. let same = f s is in (subst IsStore (sym same) is, ap kept_in same))
 
--- nothing is told of a store of version 1
-pub untold : (steady old : Bool) (a : Database) → old ≡ true → told_of steady old a ≡ None
-untold steady old a h = ap (λ o. cond (steady && (not o && is_store a)) (Some (kept_in a)) None) h ∙ never steady
-  where
-    never : (s : Bool) → cond (s && false) (Some (kept_in a)) None ≡ None
-    never true = refl
-    never false = refl
-
 pub kept_is : (projects : Projects) (rows : Rows) (db : Database) → HasTables projects rows db → kept_in db ≡ record { version = 2; projects = projects; rows = rows }
 kept_is projects rows db t = λ i. record { version = 2; projects = t.projects i; rows = t.rows i }
 

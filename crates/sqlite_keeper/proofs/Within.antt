@@ -1,11 +1,10 @@
 -- Calls within a transaction, and how it ends.
-use Rattle.std.proofs.Common.{◌≡◌, ◌⊎◌, inl, inr, ℕ, List, true, false, true≢false, Ok, Err, Result, IsTrue, OnOk, IfOk, IfErr, IsErr, refl, sym, subst, ◌∙◌, arith, Vec, Global}
+use Rattle.std.proofs.Common.{◌≡◌, ◌⊎◌, inl, inr, ℕ, List, true, false, Ok, Err, Result, IsTrue, OnOk, IfOk, IfErr, IsErr, refl, sym, subst, ◌∙◌, arith, Vec, Global}
 use Rattle.sqlite.specs.declared.error.Error.{Error}
 use Rattle.sqlite.specs.Order.{Row}
 use Rattle.sqlite.specs.Tree.{Trees}
 use Rattle.sqlite.specs.Listing.{understood}
-use Rattle.sqlite.specs.State.{State, HasCleanDisk, KeepsCommit, IsUnchanged, IsRolledBack, Survives, Shown, Executes, ExecutesInside, FailsToQuery, IsTooLate}
-use Rattle.sqlite.specs.Steps.{FailsToCommit}
+use Rattle.sqlite.specs.State.{State, HasCleanDisk, KeepsCommit, IsUnchanged, Survives, Shown, FailsToQuery, IsTooLate}
 use Rattle.sqlite.proofs.Callers.{IsPlain}
 use Rattle.sqlite_keeper.specs.Schema.{store_schema}
 use Rattle.sqlite_keeper.specs.Changes.{RunsWithin}
@@ -20,26 +19,6 @@ keeps_left old new (inl same) = keeps_unchanged old new same
 keeps_left old new (inr back) = record { was_open = back.was_open; committed = λ live. (back.undone live).1 }
 
 module _ (sql : List ℕ) (params : Row) (old new : State) where
-  inside_goes : (r : Result ℕ Error) → ExecutesInside 0 sql params old new r → OnOk r (IsTrue new.in_transaction)
-  inside_goes (Ok n) h = h.1.mode
-  inside_goes (Err e) h = tt
-
-  inside_keeps : (r : Result ℕ Error) → ExecutesInside 0 sql params old new r → KeepsCommit old new
-  inside_keeps (Ok n) h = record { was_open = λ live. h.1.was_open; committed = λ live. h.1.committed_is }
-  inside_keeps (Err e) (inl h) = keeps_left old new h.1
-  inside_keeps (Err e) (inr h) = keeps_unchanged old new h.2
-
-  -- a statement within a transaction
-  pub runs_within : {P : Trees → Type 0} (r : Result ℕ Error) → Survives old new P → (HasCleanDisk new → IsTrue old.in_transaction → ExecutesInside 0 sql params old new r) → RunsWithin old new r
-  runs_within r s h = record {
-    clean = λ c. omega (arith, c, s.clean);
-    goes_on = λ c on. inside_goes r (h c on);
-    commit = λ c on. inside_keeps r (h c on);
-  }
-
-  pub ran_ok : (n : ℕ) → ExecutesInside 0 sql params old new (Ok n) → Executes sql params old new (Ok n)
-  ran_ok n h = h.0
-
   query_keeps : {X : Type 0} (r : Result X Error) (Gives : X → Type 0) → ((x : X) → Gives x → IsUnchanged old new) → IfOk r Gives
       → IfErr r (λ e. FailsToQuery sql params old new e ⊎ IsTooLate sql params old new e) → IsTrue old.in_transaction → OnOk r (IsTrue new.in_transaction) × KeepsCommit old new
   query_keeps (Ok x) Gives same h e on = let it = same x h in (it.0.mode ∙ on, keeps_unchanged old new it)
@@ -74,31 +53,12 @@ module _ (a b c : State) where
 pub within_ok : {X Y : Type 0} (a b : State) (x : X) (y : Y) → RunsWithin a b (Ok x) → RunsWithin a b (Ok y)
 within_ok a b x y p = record { clean = p.clean; goes_on = p.goes_on; commit = p.commit }
 
-pub within_err : {X Y : Type 0} (a b : State) (e f : Error) → RunsWithin {X = X} a b (Err e) → RunsWithin {X = Y} a b (Err f)
-within_err a b e f p = record { clean = p.clean; goes_on = λ c on. tt; commit = p.commit }
-
 pub within_fails : {X Y : Type 0} (a b : State) (r : Result X Error) (s : Result Y Error) → IsErr s → RunsWithin a b r → RunsWithin a b s
 within_fails a b r s failed p = record { clean = p.clean; goes_on = λ c on. none _ s failed; commit = p.commit }
   where
     none : {Z : Type 0} (P : Type 0) (t : Result Z Error) → IsErr t → OnOk t P
     none P (Ok z) h = absurd (let m : false ≡ true = h in cc)
     none P (Err f) h = tt
-
--- nothing was done
-pub within_still : {X : Type 0} (a : State) (e : Error) → RunsWithin {X = X} a a (Err e)
-within_still a e = record { clean = λ c. c; goes_on = λ c on. tt; commit = λ c on. record { was_open = λ live. live; committed = λ live. refl } }
-
--- a transaction that is given up leaves what was there before it
-pub given_up : (first before after last : State) → (IsTrue first.is_open → first.now ≡ first.committed) → (before.committed ≡ first.committed) → (IsTrue before.is_open → IsTrue first.is_open)
-    → KeepsCommit before after → IsRolledBack after last → IsTrue last.is_open → last.now ≡ first.now
-given_up first before after last settled begun open_before keeps back live =
-    let still = back.was_open live in
-    (back.undone live).0 ∙ keeps.committed still ∙ begun ∙ sym (settled (open_before (keeps.was_open still)))
-
--- so does one whose commit fails
-pub commit_failed : (old new : State) (e : Error) → IsTrue old.in_transaction → FailsToCommit old new e → IsRolledBack old new
-commit_failed old new e inside (inl failed) = failed.3
-commit_failed old new e inside (inr outside) = absurd (true≢false (sym inside ∙ outside.1))
 
 pub within_here : (a : State) → RunsWithin {X = Unit {0}} a a (Ok tt)
 within_here a = record { clean = λ c. c; goes_on = λ c on. on; commit = λ c on. record { was_open = λ live. live; committed = λ live. refl } }
