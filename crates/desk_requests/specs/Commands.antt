@@ -1,4 +1,6 @@
 -- Statuses of refusals, and the keys of bodies.
+--   status_of r == the HTTP status of a refusal
+--   key_of m == the key of the member that a body has
 use Rattle.std.specs.Prelude.{ℕ, List, codes}
 use Rattle.desk_requests.specs.declared.decision.Refusal.{Refusal}
 use Rattle.desk_requests.specs.declared.decision.Refusal.TheVariants.{BadRequest, NotFound, MethodNotAllowed, LengthRequired, TooLarge}

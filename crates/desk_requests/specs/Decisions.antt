@@ -3,6 +3,14 @@
 --       refusals
 --   Decides bytes d == d is what the bytes decide, or Open where they decide nothing yet
 --   DecidesAtEnd bytes d == d is what they decide where no more come
+-- and, on the way there:
+--   most_body == the greatest length of a body
+--   command_with member name text == the command that takes this text
+--   on_text, on_body == the decision on the text of a body, or its refusal; on the bytes after the
+--       head, of which the body is the first n
+--   on_length, on_ask, on_place == the decision where the length of the body is known so; where the
+--       method asks for this; where the target is this place
+--   closed d == the decision where no more bytes come: what is open is refused
 use Rattle.std.specs.Prelude.{◌≡◌, ◌<◌, ℕ, nat_lt, List, length, take, map, if◌then◌else◌, Option, Some, None}
 use Rattle.httparse.specs.Grammar.{RequestHead, MayBecomeRequest}
 use Rattle.httparse.specs.Spans.{name_and_value}

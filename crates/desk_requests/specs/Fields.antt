@@ -7,6 +7,12 @@
 --   has_field name fields == there is one
 --   body_length fields == what the Content-Length fields tell: nothing where there is none, the
 --       number where there is one that writes it, else that it is malformed
+--   Field == a name and a value
+--   content_length, transfer_encoding == the names of these fields
+--   is_named name f == the field has this name, in any case
+--   known_if n == what one number tells, and its lack
+--   joined_length so_far value == what is told where one more value comes
+--   length_from so_far values == what is told where these values come
 use Rattle.std.specs.Prelude.{ℕ, Bool, false, ◌&&◌, nat_lt, List, [], ◌∷◌, length, codes, if◌then◌else◌, Option, Some, None}
 use Rattle.std.specs.Char.{is_ascii_digit}
 use Rattle.std.specs.List.{list_all, list_any}

@@ -3,6 +3,7 @@
 --       then rest
 --   IsHeadless bytes == they begin with no such head
 --   IsHopeless bytes == whatever bytes follow, they never will
+--   most_bytes, most_fields == the bounds of a head
 use Rattle.std.specs.Prelude.{◌≤◌, ℕ, List, ◌++◌, length}
 use Rattle.httparse.specs.Grammar.{RequestHead, ReadsRequest, print_request}
 

@@ -9,6 +9,13 @@
 --   has_name p == a name in it is one of a project
 --   methods_of p == the methods that a place has
 --   ask_of p method == what a method asks for at a place; None where the place has no such method
+--   Row, project_row, projects_row == a route, that of a part of a project, that of all projects
+--   place_at part name, place_on route target == the place of a route whose value is `part`, of the
+--       route that was found
+--   methods_at part == the methods that a part of a project has
+--   method_of text == the method with this name; None for every other
+--   ask_of_all, ask_of_project, ask_at == what a method asks for at all projects, at a part of a
+--       project, at a place
 use Rattle.std.specs.Prelude.{ℕ, List, [], ◌∷◌, ◌++◌, codes, drop, Bool, true, not, ◌==◌, if◌then◌else◌, Option, Some, None, option_and_then}
 use Rattle.std.specs.List.{take_while}
 use Rattle.std.specs.Str.{bytes_eq}

@@ -14,6 +14,8 @@
 --   IsCounted old new id before after result == after an answer the tree is finished; where it was
 --       not before, the count is raised by one. After a refusal nothing more is finished, and the
 --       count stays
+--   IsUncounted, IsFinishedNow == the two cases: nothing more is finished and the count stays; the
+--       tree is finished now, and counted
 use Rattle.std.specs.Prelude.{◌≡◌, ℕ, ◌+◌, ◌-◌, ◌^◌, ◌<◌, min, ◌⊎◌, List, [], ◌∷◌, ◌++◌, length, Result, MatchResult, refl}
 use Rattle.std.specs.List.{AllByRecursion}
 use Rattle.std.specs.Coded.{Coded, code_by, coded×, coded_list, coded_ℕ}

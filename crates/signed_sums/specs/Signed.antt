@@ -5,6 +5,7 @@
 --   HaveSameCoefficients same ts us == each key has one sum in both lists
 --   size_of ts == the sum of the absolute coefficients
 --   joined same ts == neighbours with equal keys made one term, their coefficients added
+--   join_onto same t ts == the same, of t with the terms ts behind it
 --   without_zeros ts == the terms with a coefficient that is not 0
 --   IsSumOf cmp us ts == ts is the sum of the terms us: each key once, in ascending order, with the
 --       sum of its coefficients, where that is not 0; and it is no larger
