@@ -1,0 +1,5 @@
+pub mod Held
+pub mod Known
+pub mod Quotients
+pub mod RunTerms
+pub mod Values

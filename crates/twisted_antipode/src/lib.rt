@@ -1,0 +1,14 @@
+//! The twisted antipode, and renormalisation constants.
+#![tactic(auto)]
+
+mod antipodes;
+mod error;
+mod holding;
+mod keeping;
+mod quotient;
+mod runs;
+mod value;
+
+pub use antipodes::{antipode, constant};
+pub use error::{AntipodeError, Quantity};
+pub use holding::Constants;
