@@ -1,5 +1,5 @@
 // The twisted antipode of a tree, and its constant.
-ghost use Rattle.std.specs.Prelude.{◌≡◌, ◌<◌, ◌≤◌, length, false, None, IfOk, IfErr};
+ghost use Rattle.std.specs.Prelude.{◌≡◌, ◌<◌, ◌≤◌, length, unsigned_abs, false, None, IfOk, IfErr};
 ghost use Rattle.exact_sums.specs.Saturating.{overflow};
 ghost use Rattle.symbol_polys.specs.View.{terms_of, IsPoly};
 ghost use Rattle.tree_pool.specs.Content.{tree_at};
@@ -31,6 +31,7 @@ use tree_pool::TreeId;
 fn poly_of(value: Value, quantity: Quantity) -> Result<Poly, AntipodeError>
     requires { IsKept value }
     ensures poly { IfOk result IsPoly }
+    ensures range { IfOk result (λ p. unsigned_abs p.mass < overflow) }
     ensures value { IfOk result (λ p. (w : Weighed) → IsValueOf w value → IsPolyOf w p) }
     ensures refusal { IfErr result (λ e. e ≡ CoefficientTooLarge quantity) }
     ensures large { IfErr result (λ e. (w : Weighed) → IsValueOf w value → overflow ≤ w.mass) }
@@ -53,6 +54,7 @@ pub fn antipode<'a>(
     requires known { id.0 < length tables.old.pool.trees }
     requires bounded { IsBounded (tree_at tables.old.pool id.0) }
     ensures poly { IfOk result IsPoly }
+    ensures range { IfOk result (λ p. unsigned_abs p.mass < overflow) }
     ensures trees { IfOk result (λ p. AreOverTrees tables.old.pool.types (terms_of p.terms)) }
     ensures value { IfOk result (λ p. (a : Plain → Weighed) → IsAntipode tables.old.pool.types a →
         IsPolyOf (a (tree_at tables.old.pool id.0)) p) }
@@ -120,6 +122,7 @@ pub fn constant<'a>(
     requires bounded { IsBounded (tree_at tables.old.pool id.0) }
     requires held { AreHeldOver tables.old.pool constants.old }
     ensures poly { IfOk result IsPoly }
+    ensures range { IfOk result (λ p. unsigned_abs p.mass < overflow) }
     ensures expectations { IfOk result (λ p. AreOverExpectations (terms_of p.terms)) }
     ensures typed { IfOk result (λ p. AreHeldTyped tables.old.pool.types constants.old →
         AreTyped tables.old.pool.types (terms_of p.terms)) }
