@@ -7,3 +7,6 @@ pub mod Keepings
 pub mod PartLaws
 pub mod ValueLaws
 pub mod RecursionLaws
+pub mod RunLaws
+pub mod ForestLaws
+pub mod CountLaws

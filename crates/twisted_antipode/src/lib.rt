@@ -6,6 +6,7 @@ mod error;
 mod holding;
 mod keeping;
 mod quotient;
+mod recursion;
 mod runs;
 mod value;
 

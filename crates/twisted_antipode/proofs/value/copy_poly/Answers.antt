@@ -1,6 +1,6 @@
 use Rattle.std.proofs.Common.{ap, unsigned_abs, arith}
 use Rattle.std.proofs.lemmas.Int.{ints}
-use Rattle.twisted_antipode.proofs.Arithmetic.{copied, too_large}
+use Rattle.twisted_antipode.proofs.Arithmetic.{copied}
 use Rattle.twisted_antipode.proofs.value.copy_poly.Goals as goal
 
 pub returns-in-Ok-clause-value : goal.returns-in-Ok-clause-value
