@@ -42,7 +42,6 @@ use Rattle.twisted_antipode.specs.Quotients.{quotient_terms}
 use Rattle.twisted_antipode.specs.RunTerms.{IsCoefficient}
 use Rattle.symbol_polys.specs.declared.poly.Poly.{Poly}
 use Rattle.symbol_polys.specs.View.{IsPoly}
-use Rattle.tree_pool.specs.declared.TreeId.{TreeId}
 use Rattle.tree_pool.specs.declared.ForestId.{ForestId}
 use Rattle.extraction_coproduct.specs.Terms.{AreKnownTerms}
 use Rattle.twisted_antipode.specs.Values.{IsValueOf, IsPolyOf}
