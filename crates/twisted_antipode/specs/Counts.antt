@@ -1,10 +1,15 @@
 -- Of which trees the extraction coproducts are finished by a call, and how many these are.
---   IsCountOf old new before after == what was finished stays so, and the count is raised once for each coproduct that is finished
---   HasAllComponents ty ts == with each of its trees the list ts has all trees of the forests of the terms of its extraction coproduct
+--   IsCountOf old new before after == what was finished stays so, and the count is raised once for
+--       each coproduct that is finished
+--   HasAllComponents ty ts == with each of its trees the list ts has all trees of the forests of
+--       the terms of its extraction coproduct
 --   HasAll fs ts == the list ts has each of the trees fs
---   IsNewAmong c hs ts old i == the number i is that of a tree of ts for which nothing is held in hs, and it is not among old
---   AreFinishedAmong c hs ts old new == new is old with the numbers of such trees behind it, each once
---   AreFinishedOver old new hs fs == so it is, over the values hs that are held, for each list ts that has the trees fs and all their components
+--   IsNewAmong c hs ts old i == the number i is that of a tree of ts for which nothing is held in
+--       hs, and it is not among old
+--   AreFinishedAmong c hs ts old new == new is old with the numbers of such trees behind it, each
+--       once
+--   AreFinishedOver old new hs fs == so it is, over the values hs that are held, for each list ts
+--       that has the trees fs and all their components
 use Rattle.std.specs.Prelude.{◌≡◌, ◌<◌, ℕ, List, ◌++◌, fold, length, None}
 use Rattle.std.specs.List.{AllByRecursion}
 use Rattle.ordered_lists.specs.Members.{IsIn}
@@ -26,15 +31,18 @@ abbrev pub HasAll : List Plain → List Plain → Type 0
 HasAll fs ts = AllByRecursion (λ f. IsIn f ts) fs
 
 abbrev pub HasAllComponents : Types → List Plain → Type 0
-HasAllComponents ty ts = (t : Plain) → IsIn t ts → AllByRecursion (λ x. HasAll x.0.0 ts) (extraction_terms ty t)
+HasAllComponents ty ts =
+    (t : Plain) → IsIn t ts → AllByRecursion (λ x. HasAll x.0.0 ts) (extraction_terms ty t)
 
-pub record IsNewAmong (c : Content) (hs : List Held) (ts : List Plain) (old : List ℕ) (i : ℕ) : Type 0 where
+pub record IsNewAmong (c : Content) (hs : List Held) (ts : List Plain) (old : List ℕ) (i : ℕ) :
+    Type 0 where
   pub known : i < length c.trees
   pub tree : IsIn (tree_at c i) ts
   pub unheld : first_held hs i ≡ None
   pub lacking : IsIn i old → ⊥
 
-pub record AreFinishedAmong (c : Content) (hs : List Held) (ts : List Plain) (old new : List ℕ) : Type 0 where
+pub record AreFinishedAmong (c : Content) (hs : List Held) (ts : List Plain) (old new : List ℕ) :
+    Type 0 where
   pub more : List ℕ
   pub finished : new ≡ old ++ more
   pub each : AllByRecursion (IsNewAmong c hs ts old) more

@@ -103,7 +103,8 @@ pub(crate) fn run_length(terms: &[ExtractTerm]) -> usize
     requires { 0 < length terms.now }
     ensures some { 0 < result }
     ensures most { result ≤ length terms.now }
-    ensures forest { (d : ExtractTerm) → AllByRecursion (λ e. e.forest ≡ (get_or terms.now 0 d).forest) (take result terms.now) }
+    ensures forest { (d : ExtractTerm) → AllByRecursion
+        (λ e. e.forest ≡ (get_or terms.now 0 d).forest) (take result terms.now) }
 {
     let forest = terms[0].forest;
     let mut i = 1;

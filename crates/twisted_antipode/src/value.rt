@@ -1,4 +1,5 @@
-// Values of trees, and their arithmetic. A value whose mass is out of range is one all the same: times 0 it is 0.
+// Values of trees, and their arithmetic. A value whose mass is out of range is one all the same:
+// times 0 it is 0.
 ghost use Rattle.std.specs.Prelude.{◌≡◌, ◌≤◌, [], IfOk, IsOkUnless, IsTrue};
 ghost use Rattle.exact_sums.specs.Saturating.{overflow};
 ghost use Rattle.symbol_polys.specs.Polynomials.{HaveSameCoefficients};
@@ -32,7 +33,8 @@ pub(crate) fn sum(alloc: Global, a: &Value, b: &Value) -> Result<Value, PolyErro
     requires a { IsKept a.now }
     requires b { IsKept b.now }
     ensures kept { IfOk result IsKept }
-    ensures value { IfOk result (λ v. (w u : Weighed) → IsValueOf w a.now → IsValueOf u b.now → IsValueOf (sum_of w u) v) }
+    ensures value { IfOk result (λ v. (w u : Weighed) → IsValueOf w a.now → IsValueOf u b.now →
+        IsValueOf (sum_of w u) v) }
     ensures memory { IsOkUnless result PolyError.Memory }
 {
     match (a, b) {
