@@ -1,13 +1,11 @@
 -- What the recursion's answers say of antipodes and constants.
-use Rattle.std.proofs.Common.{◌≡◌, ℕ, ◌<◌, ◌≤◌, ◌==◌, nat_lt, pos, true, false, cond, List, [], ◌∷◌, inl, inr, length, Option, Some, None, Result, Ok, Err, IfOk, IfErr, refl, sym, ap, ◌∙◌, subst, arith}
-use Rattle.std.specs.List.{AllByRecursion}
-use Rattle.std.proofs.lemmas.Bool.{and_parts}
-use Rattle.std.proofs.lemmas.Bool.Decides.{Decides-eqb, nat_tests}
+use Rattle.std.proofs.Common.{◌≡◌, ℕ, ◌<◌, ◌≤◌, ◌==◌, pos, true, false, cond, List, [], ◌∷◌, inl, inr, length, Option, Some, None, Result, Ok, Err, IfOk, IfErr, refl, sym, ap, ◌∙◌, subst, arith}
+use Rattle.std.proofs.lemmas.Bool.Decides.{Decides-eqb}
 use Rattle.exact_sums.specs.Saturating.{overflow}
 use Rattle.degree_numbers.specs.declared.types.Types.{Types}
 use Rattle.plain_trees.specs.Plain.{Plain}
 use Rattle.plain_trees.specs.Degree.{HasTypes, is_empty_tree}
-use Rattle.plain_trees.specs.Coproducts.{Extracted, extraction_terms}
+use Rattle.plain_trees.specs.Coproducts.{extraction_terms}
 use Rattle.tree_pool.specs.Content.{Content, IsPooled, IsGrown, tree_at}
 use Rattle.tree_pool.proofs.Growth.{grown_at}
 use Rattle.extraction_coproduct.specs.Finished.{TablesContent, coproduct_of}
@@ -15,7 +13,7 @@ use Rattle.extraction_coproduct.specs.Terms.{AreInRange}
 use Rattle.symbol_polys.specs.declared.poly.Poly.{Poly}
 use Rattle.symbol_polys.specs.View.{IsPoly, terms_of}
 use Rattle.antipode_laws.specs.Weighed.{Weighed, unit}
-use Rattle.antipode_laws.specs.Antipode.{are_in_range, from_smaller, value_at, tree_terms, nothing, IsAntipode}
+use Rattle.antipode_laws.specs.Antipode.{from_smaller, value_at, tree_terms, nothing, IsAntipode}
 use Rattle.antipode_laws.specs.Constants.{expected, IsConstants}
 use Rattle.antipode_laws.proofs.Solutions.{solution, is_solution}
 use Rattle.antipode_laws.proofs.OtherTerms.{all_members, member_of}

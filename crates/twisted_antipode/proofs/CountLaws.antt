@@ -3,8 +3,8 @@ use Rattle.std.proofs.Common.{◌≡◌, ◌==◌, ℕ, zero, suc, ◌+◌, ◌<
 use Rattle.std.proofs.lemmas.Bool.Decides.{Decides-eqb}
 use Rattle.std.proofs.lemmas.List.Sums.{fold-append}
 use Rattle.ordered_lists.specs.Members.{IsIn}
-use Rattle.ordered_lists.proofs.Members.{in_append_left, in_append_right, from_append}
-use Rattle.multiplicities.specs.Distinct.{AreDistinct}
+use Rattle.ordered_lists.proofs.Members.{in_append_left, in_append_right}
+use Rattle.multiplicities.proofs.DistinctLists.{distinct_append}
 use Rattle.degree_numbers.specs.declared.types.Types.{Types}
 use Rattle.degree_numbers.proofs.TypeBounds.{all_weaker}
 use Rattle.plain_trees.specs.Plain.{Plain}
@@ -76,10 +76,6 @@ still_none hs ks i kept none =
     ]) refl
 
 -- what is finished
-distinct_both : (ms ns : List ℕ) → AreDistinct ms → AreDistinct ns → ((n : ℕ) → IsIn n ns → IsIn n ms → ⊥) → AreDistinct (ms ++ ns)
-distinct_both [] ns a b h = b
-distinct_both (m ∷ ms) ns a b h = (λ i. elim (from_append m ms ns i) [ inl j ↦ a.0 j | inr j ↦ h m j (inl refl) ], distinct_both ms ns a.1 b (λ n i j. h n i (inr j)))
-
 new_grown : (c d : Content) (hs : List Held) (ts : List Plain) (old : List ℕ) (i : ℕ) → IsGrown c d → IsNewAmong c hs ts old i → IsNewAmong d hs ts old i
 new_grown c d hs ts old i g n =
     let more = grown_length c d g in
@@ -116,8 +112,8 @@ among_after c d hs ks ts old mid new g kept a b =
       finished = b.finished ∙ ap (λ (fs : List ℕ). fs ++ b.more) a.finished ∙ append_assoc old a.more b.more;
       each = all_append (IsNewAmong d hs ts old) a.more b.more (all_weaker (IsNewAmong c hs ts old) (IsNewAmong d hs ts old) a.more (λ i n. new_grown c d hs ts old i g n) a.each)
           (all_weaker (IsNewAmong d ks ts mid) (IsNewAmong d hs ts old) b.more later b.each);
-      once = distinct_both a.more b.more a.once b.once
-          (λ n i j. (member_of (IsNewAmong d ks ts mid) b.more n b.each i).lacking (subst (IsIn n) (sym a.finished) (in_append_right n old a.more j)));
+      once = distinct_append a.more b.more a.once b.once
+          (λ n j i. (member_of (IsNewAmong d ks ts mid) b.more n b.each i).lacking (subst (IsIn n) (sym a.finished) (in_append_right n old a.more j)));
     }
 
 pub among_one : {T E : Type 0} (a b : TablesContent) (hs : List Held) (ts : List Plain) (i m n : ℕ) (r : Result T E) → IsGrown a.pool b.pool → i < length a.pool.trees → IsIn (tree_at a.pool i) ts →

@@ -13,3 +13,4 @@ pub mod CountLaws
 pub mod SolutionLaws
 pub mod HeldLaws
 pub mod ConstantLaws
+pub mod WorkLaws

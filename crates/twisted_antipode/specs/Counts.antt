@@ -10,7 +10,8 @@
 --       once
 --   AreFinishedOver old new hs fs == so it is, over the values hs that are held, for each list ts
 --       that has the trees fs and all their components
-use Rattle.std.specs.Prelude.{◌≡◌, ◌<◌, ℕ, List, ◌++◌, fold, length, None}
+--   unheld_of c hs ts == the trees of ts for which nothing is held in hs
+use Rattle.std.specs.Prelude.{◌≡◌, ◌<◌, ℕ, List, ◌++◌, filter, fold, is_none, length, None}
 use Rattle.std.specs.List.{AllByRecursion}
 use Rattle.ordered_lists.specs.Members.{IsIn}
 use Rattle.multiplicities.specs.Distinct.{AreDistinct}
@@ -19,7 +20,7 @@ use Rattle.plain_trees.specs.Plain.{Plain}
 use Rattle.plain_trees.specs.Coproducts.{extraction_terms}
 use Rattle.tree_pool.specs.Content.{Content, tree_at}
 use Rattle.extraction_coproduct.specs.Finished.{TablesContent, raised}
-use Rattle.twisted_antipode.specs.Held.{Held}
+use Rattle.twisted_antipode.specs.Held.{Held, held_over}
 use Rattle.twisted_antipode.specs.Known.{first_held}
 
 pub record IsCountOf (old new : TablesContent) (before after : ℕ) : Type 0 where
@@ -52,3 +53,6 @@ abbrev pub AreFinishedOver : TablesContent → TablesContent → List Held → L
 AreFinishedOver old new hs fs =
     (ts : List Plain) → HasAll fs ts → HasAllComponents old.pool.types ts →
     AreFinishedAmong new.pool hs ts old.finished new.finished
+
+abbrev pub unheld_of : Content → List Held → List Plain → List Plain
+unheld_of c hs ts = filter (λ t. is_none (held_over c hs t)) ts

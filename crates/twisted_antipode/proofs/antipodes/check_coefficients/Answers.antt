@@ -1,5 +1,3 @@
-use Rattle.std.proofs.Common.{◌≡◌}
-use Rattle.twisted_antipode.specs.Known.{first_held}
 use Rattle.twisted_antipode.proofs.Entries.{lacks}
 use Rattle.twisted_antipode.proofs.CountLaws.{count_one, over_one}
 use Rattle.twisted_antipode.proofs.ConstantLaws.{has_first, coefficients_refused}
