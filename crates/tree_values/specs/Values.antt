@@ -1,9 +1,10 @@
 -- What is reported of a tree, and what calls answer.
---   IsDifferentialOf eq t u d == d is the differential of the tree t at the unknown u, a polynomial,
---       with the denominator that is given with it
+--   IsDifferentialOf eq t u d == d is the differential of the tree t at the unknown u, as a
+--       polynomial, with the denominator that is given with it
 --   AreDifferentialsOf eq t us ds == ds are those at the unknowns us, in order
---   IsValuesOf eq c t v == v is the tree t with its degree, its symmetry factor, its constant, which
---       is the polynomial with the coefficients and the mass that c gives, and its differentials
+--   IsValuesOf eq c t v == v is the tree t with its degree, its symmetry factor, its constant,
+--       which is the polynomial with the coefficients and the mass that c gives, and its
+--       differentials
 --   AreValuesOf eq held c ts vs == all quantities of the trees ts are in range, and vs are their
 --       values, in order
 --   AreOver ty hs == the symbols of the values hs that are held are trees over the types, or
@@ -13,10 +14,10 @@
 --   IsListRefused eq held c pool ids e == e names the first of the trees with the numbers ids that
 --       has a quantity out of range, and its first one; or memory is wanted
 --   IsKnownRefusal pool e == the number of the tree that e names is that of a tree of the pool
---   of_antipode id e == the refusal e of an antipode or a constant, said of the tree with the number
---       id
---   IsMoreHeld ty held more == more holds what held holds, and besides it only constants over held,
---       up to the order of their terms
+--   of_antipode id e == the refusal e of an antipode or a constant, said of the tree with the
+--       number id
+--   IsMoreHeld ty held more == more holds what held holds, and besides it only constants over
+--       held, up to the order of their terms
 use Rattle.std.specs.Prelude.{◌≡◌, ◌<◌, ◌⊎◌, List, [], ◌∷◌, length, Option, ⊤}
 use Rattle.std.specs.List.{AllByRecursion}
 use Rattle.degree_numbers.specs.declared.types.Types.{Types}
@@ -51,7 +52,8 @@ use Rattle.tree_values.specs.declared.error.ValuesError.TheVariants.{TooLarge, M
 
 pub record IsDifferentialOf (eq : Equation) (t : Plain) (u : Unknown) (d : DiffValue) : Type 0 where
   pub polynomial : IsPoly d.poly
-  pub coefficients : HaveSameCoefficients (terms_of d.poly.terms) (differential_terms eq u.kernel.0 t)
+  pub coefficients : HaveSameCoefficients (terms_of d.poly.terms)
+      (differential_terms eq u.kernel.0 t)
   pub denominator : d.denominator ≡ given_denominator eq u.kernel.0 t
 
 abbrev pub AreDifferentialsOf : Equation → Plain → List Unknown → List DiffValue → Type 0
@@ -61,7 +63,8 @@ AreDifferentialsOf eq t (u ∷ us) [] = ⊥
 AreDifferentialsOf eq t (u ∷ us) (d ∷ ds) = IsDifferentialOf eq t u d ×
     AreDifferentialsOf eq t us ds
 
-pub record IsValuesOf (eq : Equation) (c : Plain → Weighed) (t : Plain) (v : TreeValues) : Type 0 where
+pub record IsValuesOf (eq : Equation) (c : Plain → Weighed) (t : Plain) (v : TreeValues) :
+    Type 0 where
   pub tree : plain v.tree ≡ t
   pub degree : v.degree ≡ degree_of eq.types t
   pub symmetry : v.symmetry ≡ symmetry_of t

@@ -27,11 +27,11 @@ use tree_pool::TreeId;
 use twisted_antipode::{Constants, constant};
 
 /// The values of a tree, as a report has them: its degree, its symmetry factor, its constant over
-/// what is held at the start of the call, and its differentials. Refused exactly where a quantity is
-/// out of range, with the first one in this order: a coefficient of the extraction coproduct and
-/// the mass of the constant, of a tree that is not held; for each unknown the mass of the
-/// differential and its denominator; and for want of memory. Constants that are found on the way
-/// may be held afterwards.
+/// what is held at the start of the call, and its differentials. Refused exactly where a quantity
+/// is out of range, with the first one in this order: a coefficient of the extraction coproduct
+/// and the mass of the constant, of a tree that is not held; for each unknown the mass of the
+/// differential and its denominator (after Bruned, Chandra, Chevyrev and Hairer); and for want of
+/// memory. Constants that are found on the way may be held afterwards.
 pub fn values_of<'a>(
     alloc: Global,
     eq: &Equation,
