@@ -1,11 +1,11 @@
 -- What `compute` answers for a file, where nothing is held.
---   HasValues c k vs == vs are the rules of c, and the values of its listed trees with the constants
---       k, all of them in range
+--   HasValues c k vs == vs are the rules of c, and the values of its listed trees with the
+--       constants k, all of them in range
 --   ForConstants ty holds == something holds with the constants, where nothing is held
 --   of_tree ty t q == the refusal that names the tree t and its quantity q
 --   of_values pool e == the refusal e of values, in texts
---   IsPastIn eq ts k e == e names the first of the trees ts with a quantity that is out of range, and
---       its first one
+--   IsPastIn eq ts k e == e names the first of the trees ts with a quantity that is out of range,
+--       and its first one
 --   GivesValues c r == r is the equation and these values, or that refusal
 --   Computing == a report, and the numbers of values that are reused and computed
 --   computing c == these three of what the program makes
