@@ -101,6 +101,18 @@ pub fn print_detail(
     ensures { IfOk result (λ v.
         IsDetailText eq.now (tree_at tables.now.pool detail.now.tree.0) v.items) }
 {
-    let _ = (alloc, eq, tables, detail);
-    Err(AllocError)
+    let mut out = Vec::new(alloc);
+    put_head(&mut out, alloc, tables.pool(), detail.tree)?;
+    put_pairings(&mut out, detail.pairings.as_slice())?;
+    put_extraction(&mut out, alloc, tables, detail.extraction)?;
+    put_recentring(&mut out, alloc, tables.pool(), detail.recentring)?;
+    put_polynomials(
+        &mut out,
+        alloc,
+        eq,
+        &detail.antipode,
+        &detail.constant,
+        detail.differentials.as_slice(),
+    )?;
+    Ok(out)
 }
