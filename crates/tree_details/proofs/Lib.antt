@@ -1,3 +1,4 @@
 pub mod Assembled
 pub mod PoolTrees
 pub mod SumTexts
+pub mod ValueSymbols

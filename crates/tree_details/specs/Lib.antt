@@ -1,2 +1,3 @@
 pub mod Detail
+pub mod Ranges
 pub mod Values

@@ -23,19 +23,25 @@ use std::alloc::{AllocError, Global};
 use symbol_polys::Poly;
 use tree_pool::{Pool, TreeId};
 
+/// The twisted antipode of a tree, its constant, and its elementary differential for each unknown,
+/// in the order of the unknowns.
+#[derive(Drop)]
+pub struct Polynomials {
+    pub antipode: Poly,
+    pub constant: Poly,
+    pub differentials: Items<DiffValue>,
+}
+
 /// A tree of a pool with what takes memory to compute of it: its pairings, the terms of its
-/// extraction and of its recentring coproduct, its twisted antipode, its constant, and its
-/// elementary differential for each unknown, in the order of the unknowns. Trees in the terms are
-/// trees of the same pool.
+/// extraction and of its recentring coproduct, and its polynomials. Trees in the terms are trees of
+/// the same pool.
 #[derive(Drop)]
 pub struct Detail<'a> {
     pub tree: TreeId,
     pub pairings: Items<Pairing>,
     pub extraction: &'a [ExtractTerm],
     pub recentring: &'a [RightTerm],
-    pub antipode: Poly,
-    pub constant: Poly,
-    pub differentials: Items<DiffValue>,
+    pub polynomials: Polynomials,
 }
 
 fn yes_or_no(answer: bool) -> &'static [u8]
@@ -106,13 +112,6 @@ pub fn print_detail(
     put_pairings(&mut out, detail.pairings.as_slice())?;
     put_extraction(&mut out, alloc, tables, detail.extraction)?;
     put_recentring(&mut out, alloc, tables.pool(), detail.recentring)?;
-    put_polynomials(
-        &mut out,
-        alloc,
-        eq,
-        &detail.antipode,
-        &detail.constant,
-        detail.differentials.as_slice(),
-    )?;
+    put_polynomials(&mut out, alloc, eq, &detail.polynomials)?;
     Ok(out)
 }

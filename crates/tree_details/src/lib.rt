@@ -6,6 +6,8 @@ mod detail;
 mod pairings;
 mod polynomials;
 mod text;
+mod values;
 
-pub use detail::{Detail, print_detail};
+pub use detail::{Detail, Polynomials, print_detail};
 pub use text::tree_text;
+pub use values::detail_values;

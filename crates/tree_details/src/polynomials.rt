@@ -1,11 +1,13 @@
 // The polynomials in the detail.
-ghost use Rattle.std.specs.Prelude.{◌≡◌, ◌++◌, codes, length, OnOk};
+ghost use Rattle.std.specs.Prelude.{◌≡◌, ◌++◌, length, OnOk};
 ghost use Rattle.std.specs.List.{All};
 ghost use Rattle.degree_numbers.specs.Types.{AreTypes};
-ghost use Rattle.counterterm_report.specs.Report.{line, printed, differential_lines};
+ghost use Rattle.counterterm_report.specs.Report.{line, printed};
 ghost use Rattle.counterterm_report.specs.Values.{IsPrinted};
+ghost use Rattle.tree_details.specs.Values.{polynomial_lines};
 
-use counterterm_report::{DiffValue, poly_text, put_differentials, put_line};
+use crate::detail::Polynomials;
+use counterterm_report::{poly_text, put_differentials, put_line};
 use equations::Equation;
 use std::alloc::{AllocError, Global};
 use symbol_polys::Poly;
@@ -31,21 +33,23 @@ pub(crate) fn put_polynomials(
     out: &mut Vec<u8>,
     alloc: Global,
     eq: &Equation,
-    antipode: &Poly,
-    constant: &Poly,
-    differentials: &[DiffValue],
+    polynomials: &Polynomials,
 ) -> Result<(), AllocError>
     requires types { AreTypes eq.now.types }
-    requires antipode { IsPrinted eq.now antipode.now }
-    requires constant { IsPrinted eq.now constant.now }
-    requires differentials { All (λ d. IsPrinted eq.now d.poly) differentials.now }
-    requires each { length differentials.now ≡ length eq.now.unknowns }
+    requires antipode { IsPrinted eq.now polynomials.now.antipode }
+    requires constant { IsPrinted eq.now polynomials.now.constant }
+    requires differentials { All (λ d. IsPrinted eq.now d.poly) polynomials.now.differentials }
+    requires each { length polynomials.now.differentials ≡ length eq.now.unknowns }
     ensures { OnOk result (out.new.items ≡ out.old.items
-        ++ line (codes "antipode ") (printed eq.now antipode.now)
-        ++ line (codes "constant ") (printed eq.now constant.now)
-        ++ differential_lines eq.now eq.now.unknowns differentials.now) }
+        ++ polynomial_lines eq.now polynomials.now) }
 {
-    put_poly(out, alloc, eq, b"antipode ", antipode)?;
-    put_poly(out, alloc, eq, b"constant ", constant)?;
-    put_differentials(out, alloc, eq, eq.unknowns.as_slice(), differentials)
+    put_poly(out, alloc, eq, b"antipode ", &polynomials.antipode)?;
+    put_poly(out, alloc, eq, b"constant ", &polynomials.constant)?;
+    put_differentials(
+        out,
+        alloc,
+        eq,
+        eq.unknowns.as_slice(),
+        polynomials.differentials.as_slice(),
+    )
 }

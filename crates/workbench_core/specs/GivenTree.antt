@@ -11,13 +11,13 @@ use Rattle.plain_trees.specs.Reading.{IsTreeOf, IsRefused}
 use Rattle.plain_trees.specs.declared.error.TreeError.{TreeError}
 use Rattle.plain_trees.specs.declared.error.TreeError.TheVariants.{Memory}
 use Rattle.workbench_core.specs.declared.refusal.Refusal.{Refusal}
-use Rattle.workbench_core.specs.Refusals.{of_tree}
+use Rattle.workbench_core.specs.Refusals.{of_tree_error}
 
 pub record IsTreeRefused {T : Type 0} (ty : Types) (text : List ℕ) (r : Result T Refusal) : Type 0 where
   pub error : TreeError
   pub cause : IsRefused ty MOST_LISTED_DECORATIONS text error
   pub not_memory : error ≢ Memory
-  pub answer : r ≡ Err (of_tree error)
+  pub answer : r ≡ Err (of_tree_error error)
 
 abbrev pub IsForTree : {T : Type 0} → (Plain → Result T Refusal → Type 0) → Types → List ℕ →
     Result T Refusal → Type 0

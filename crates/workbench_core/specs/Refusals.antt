@@ -3,7 +3,7 @@
 --   of_file f == the refusal of a file that writes down no equation
 --   of_stage j what == the refusal where a stage of the completion, from 0, is too large
 --   of_completion f == the refusal of a rule that has no completion
---   of_tree e == the refusal of a text that is not that of a tree
+--   of_tree_error e == the refusal of a text that is not that of a tree
 --   fixed_of r == the refusal with this fixed line, where the line is one
 --   status_of r, name_of r == the status and the name of a refusal
 --   reason_of_tree r == the words for why a tree text is refused
@@ -77,13 +77,13 @@ abbrev pub of_completion : StageRefusal → Refusal
 of_completion (refused.Stage j what) = of_stage j what
 of_completion refused.Memory = Memory
 
-abbrev pub of_tree : TreeError → Refusal
-of_tree (trees.TreeText place) = TreeRefused (TreeText place)
-of_tree (trees.UnknownType place) = TreeRefused (UnknownType place)
-of_tree (trees.TooManyEdges count) = TreeRefused (TooManyEdges count)
-of_tree (trees.TooManyDecorations total) = TreeRefused (TooManyDecorations total)
-of_tree trees.NotCanonical = TreeRefused NotCanonical
-of_tree trees.Memory = Memory
+abbrev pub of_tree_error : TreeError → Refusal
+of_tree_error (trees.TreeText place) = TreeRefused (TreeText place)
+of_tree_error (trees.UnknownType place) = TreeRefused (UnknownType place)
+of_tree_error (trees.TooManyEdges count) = TreeRefused (TooManyEdges count)
+of_tree_error (trees.TooManyDecorations total) = TreeRefused (TooManyDecorations total)
+of_tree_error trees.NotCanonical = TreeRefused NotCanonical
+of_tree_error trees.Memory = Memory
 
 abbrev pub fixed_of : Refusal → Option FixedRefusal
 fixed_of FileFault = Some fixed.FileFault

@@ -157,7 +157,7 @@ impl Refusal {
     ghost use Rattle.std.specs.Prelude.{◌≢◌, IfSome};
     ghost use Rattle.workbench_core.specs.declared.refusal.Refusal.TheVariants.{FileFault};
     ghost use Rattle.workbench_core.specs.Fixed.{fixed_status, fixed_line};
-    ghost use Rattle.workbench_core.specs.Refusals.{of_file, of_stage, of_completion, of_tree, fixed_of, status_of, name_of, line_of};
+    ghost use Rattle.workbench_core.specs.Refusals.{of_file, of_stage, of_completion, of_tree_error, fixed_of, status_of, name_of, line_of};
 
     /// The refusal of a file that writes down no equation.
     pub fn of_file(refusal: FileRefusal) -> Refusal
@@ -186,8 +186,8 @@ impl Refusal {
     }
 
     /// The refusal of a text that is not that of a tree.
-    pub fn of_tree(error: TreeError) -> Refusal
-        ensures refusal { result ≡ of_tree error }
+    pub fn of_tree_error(error: TreeError) -> Refusal
+        ensures refusal { result ≡ of_tree_error error }
         ensures no_fault { result ≢ FileFault }
     {
         let reason = match error {
