@@ -1,4 +1,6 @@
 pub mod Assembled
+pub mod Found
 pub mod PoolTrees
+pub mod Refused
 pub mod SumTexts
 pub mod ValueSymbols

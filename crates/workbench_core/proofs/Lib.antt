@@ -3,7 +3,6 @@ mod Digits
 pub mod FileLemmas
 pub mod Fronts
 mod KernelRows
-mod PoolTrees
 pub mod RequestLemmas
 mod TextLemmas
 mod TreeRows
