@@ -1,5 +1,5 @@
 -- The symbols of a value are those of the quotients, all over the types.
-use Rattle.std.proofs.Common.{◌≡◌, ℕ, ℤ, pos, neg_ℤ, cond, true, false, List, [], ◌∷◌, ◌++◌, refl, sym, ap, subst, Option, Some, None}
+use Rattle.std.proofs.Common.{◌≡◌, ℕ, ℤ, pos, neg_ℤ, cond, true, false, List, [], ◌∷◌, refl, sym, subst, Option, Some, None}
 use Rattle.std.specs.List.{AllByRecursion}
 use Rattle.ordered_lists.specs.Members.{IsIn}
 use Rattle.ordered_lists.proofs.Members.{in_map}
@@ -8,7 +8,7 @@ use Rattle.degree_numbers.specs.declared.types.Types.{Types}
 use Rattle.plain_trees.specs.Plain.{Plain}
 use Rattle.plain_trees.specs.Degree.{HasTypes, is_empty_tree}
 use Rattle.plain_trees.specs.Coproducts.{Extracted, extraction_terms}
-use Rattle.symbol_polys.specs.Symbols.{PlainSymbol, tree, expectation}
+use Rattle.symbol_polys.specs.Symbols.{tree, expectation}
 use Rattle.symbol_polys.specs.Polynomials.{PlainTerm, times_all}
 use Rattle.symbol_polys.specs.Products.{products_with, products}
 use Rattle.symbol_polys.proofs.MonomialLaws.{all-monomial_product}
@@ -16,7 +16,7 @@ use Rattle.tree_cuttings.proofs.Positive.{all_append}
 use Rattle.cutting_sizes.proofs.TypesKept.{extraction_types}
 use Rattle.gaussian_pairings.specs.Vanishing.{vanishes}
 use Rattle.antipode_laws.specs.Weighed.{Weighed, one, unit, symbol_term, forest_terms, negated, negated_sum}
-use Rattle.antipode_laws.specs.Antipode.{other_terms, from_smaller, value_at, tree_terms, nothing, IsSolution}
+use Rattle.antipode_laws.specs.Antipode.{other_terms, from_smaller, value_at, tree_terms, IsSolution}
 use Rattle.antipode_laws.specs.Constants.{expected}
 use Rattle.antipode_laws.specs.Symbols.{AreOverTypes, IsOverTypes}
 use Rattle.antipode_laws.proofs.BySize.{by_size}
