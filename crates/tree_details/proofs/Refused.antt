@@ -73,13 +73,12 @@ module _ (eq : Equation) (a c : Plain → Weighed) (t : Plain) where
 
   range_at : (us : List Unknown) → AreInRange (IsDifferentialPast eq t) (quantities_at us) → AreInRange Past (quantities_at us)
   range_at [] h = tt
-  range_at (u ∷ us) h = (h.0, h.1.0, range_at us h.1.1)
+  range_at (u ∷ us) h = (h.0, (h.1.0, range_at us h.1.1))
 
   first_at : (us : List Unknown) (q : Quantity) → IsFirstOf (IsDifferentialPast eq t) (quantities_at us) q → IsFirstOf Past (quantities_at us) q
   first_at [] q h = absurd h
   first_at (u ∷ us) q (inl h) = inl h
-  first_at (u ∷ us) q (inr (no, inl h)) = inr (no, inl h)
-  first_at (u ∷ us) q (inr (no, inr h)) = inr (no, inr (h.0, first_at us q h.1))
+  first_at (u ∷ us) q (inr h) = inr (h.0, elim h.1 [ inl d ↦ inl d | inr more ↦ inr (more.0, first_at us q more.1) ])
 
   abbrev Polynomials : List Quantity
   Polynomials = Antipode ∷ Constant ∷ quantities_at eq.unknowns
@@ -88,7 +87,7 @@ module _ (eq : Equation) (a c : Plain → Weighed) (t : Plain) where
   below m h k = absurd (omega (arith, h, k))
 
   pub polynomials_range : (a t).mass < overflow → (c t).mass < overflow → AreInRange (IsDifferentialPast eq t) (quantities_at eq.unknowns) → AreInRange Past Polynomials
-  polynomials_range h k d = (below (a t).mass h, (λ p. below (c t).mass k p.1), range_at eq.unknowns d)
+  polynomials_range h k d = (below (a t).mass h, ((λ p. below (c t).mass k p.1), range_at eq.unknowns d))
 
   pub antipode_first : (q : Quantity) → (q ≡ Antipode) × (overflow ≤ (a t).mass) → IsFirstOf Past Polynomials q
   antipode_first q h = inl h
@@ -112,4 +111,4 @@ module _ (eq : Equation) (a c : Plain → Weighed) (t : Plain) where
   polynomial_first q h k f = inr (extraction_range h, inr ((λ p. p k), f))
 
   pub all_range : terms.AreInRange (extraction_terms eq.types t) → lines.AreInRange (recentring_terms eq.types t) → AreInRange Past Polynomials → IsInRange eq a c t
-  all_range h k f = (extraction_range h, (λ p. p k), f)
+  all_range h k f = (extraction_range h, ((λ p. p k), f))
