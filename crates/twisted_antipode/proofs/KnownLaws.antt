@@ -28,7 +28,7 @@ use Rattle.twisted_antipode.specs.Known.{first_held, IsWellHeld, AreWellHeld, Is
 use Rattle.twisted_antipode.proofs.Arithmetic.{mass_is}
 use Rattle.twisted_antipode.proofs.Pooled.{holds_at}
 
-exact : IsExactTest (same_by tree_order)
+pub exact : IsExactTest (same_by tree_order)
 exact = same_by_exact tree_order tree_order_total tree_exact
 
 -- the pool grows
@@ -56,7 +56,7 @@ good_grown r c d hs a g well h =
     }
 
 -- a tree by its number
-same_number : (c : Content) (i j : ℕ) → IsPooled c → i < length c.trees → j < length c.trees → is_eq (tree_order (tree_at c i) (tree_at c j)) ≡ true → i ≡ j
+pub same_number : (c : Content) (i j : ℕ) → IsPooled c → i < length c.trees → j < length c.trees → is_eq (tree_order (tree_at c i) (tree_at c j)) ≡ true → i ≡ j
 same_number c i j pooled li lj h =
     let same : tree_at c i ≡ tree_at c j = exact.only (tree_at c i) (tree_at c j) h in
     pooled.distinct i j (tree_at c j) (holds_at c i li ∙ ap (λ (t : Plain). Some t) same) (holds_at c j lj)
@@ -163,7 +163,7 @@ more_held r c hs i p none well one value =
       held = subst (AreWellHeld c) (sym last) (well_last c hs (i, weighed_of p) well one);
     }
 
-well_member : (c : Content) (h : Held) (hs : List Held) → AreWellHeld c hs → IsIn h hs → IsWellHeld c h
+pub well_member : (c : Content) (h : Held) (hs : List Held) → AreWellHeld c hs → IsIn h hs → IsWellHeld c h
 well_member c h [] well i = absurd i
 well_member c h (k ∷ hs) well (inl e) = subst (IsWellHeld c) e well.0
 well_member c h (k ∷ hs) well (inr i) = well_member c h hs well.1 i

@@ -7,3 +7,6 @@ pub mod Keepings
 pub mod PartLaws
 pub mod ValueLaws
 pub mod RecursionLaws
+pub mod SolutionLaws
+pub mod HeldLaws
+pub mod ConstantLaws

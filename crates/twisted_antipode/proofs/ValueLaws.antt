@@ -80,7 +80,7 @@ more_kept r c d hs ks ls i v pooled l m (inl same) value = subst (IsKnownMore r 
 more_kept r c d hs ks ls i v pooled l m (inr k) value = with_value r c d hs ks ls i v pooled l m k value
 
 -- the range of the coefficients
-in_range : (xs : List (Extracted × ℕ)) → AllByRecursion (λ (x : Extracted × ℕ). x.1 < overflow) xs → are_in_range xs ≡ true
+pub in_range : (xs : List (Extracted × ℕ)) → AllByRecursion (λ (x : Extracted × ℕ). x.1 < overflow) xs → are_in_range xs ≡ true
 in_range [] h = refl
 in_range (x ∷ xs) h = let first = h.0 in let rest = in_range xs h.1 in search rules
 

@@ -1,4 +1,5 @@
 pub mod Held
+pub mod Kinds
 pub mod Known
 pub mod Quotients
 pub mod RunTerms
