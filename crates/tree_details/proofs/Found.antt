@@ -1,15 +1,13 @@
 -- What calls find of a tree, in the pool that they leave.
-use Rattle.std.proofs.Common.{◌≡◌, ℕ, ℤ, pos, ◌<◌, ◌≤◌, ◌^◌, true, false, List, [], ◌∷◌, map, length, unsigned_abs, refl, sym, ap, ◌∙◌, subst, arith, rules}
-use Rattle.std.specs.List.{AllByRecursion}
+use Rattle.std.proofs.Common.{◌≡◌, ℕ, ℤ, pos, ◌<◌, List, [], ◌∷◌, map, length, unsigned_abs, refl, sym, ap, ◌∙◌, subst, arith}
 use Rattle.std.proofs.lemmas.Int.{ints}
 use Rattle.exact_sums.specs.Saturating.{overflow}
 use Rattle.degree_numbers.specs.declared.types.Types.{Types}
 use Rattle.equations.specs.declared.equation.Equation.{Equation}
 use Rattle.plain_trees.specs.Plain.{Plain}
-use Rattle.plain_trees.specs.Degree.{HasTypes}
 use Rattle.plain_trees.specs.Coproducts.{Extracted, Recentred}
-use Rattle.tree_pool.specs.Content.{Content, IsPooled, IsGrown, tree_at}
-use Rattle.tree_pool.proofs.Growth.{grown_length}
+use Rattle.tree_pool.specs.Content.{Content, IsGrown, tree_at}
+use Rattle.tree_pool.proofs.Growth.{grown_length, grown_at}
 use Rattle.pooled_cuttings.specs.Groves.{IsGrove}
 use Rattle.pooled_cuttings.specs.Lines.{recentred_in}
 use Rattle.extraction_coproduct.specs.declared.term.ExtractTerm.{ExtractTerm}
@@ -21,15 +19,15 @@ use Rattle.recentring_coproduct.specs.Held as recentring
 use Rattle.recentring_coproduct.specs.Terms as lines
 use Rattle.recentring_coproduct.proofs.Grown.{fits_grown}
 use Rattle.symbol_polys.specs.declared.poly.Poly.{Poly}
-use Rattle.symbol_polys.specs.View.{IsPoly}
+use Rattle.symbol_polys.specs.View.{terms_of, IsPoly}
 use Rattle.antipode_laws.specs.Weighed.{Weighed}
-use Rattle.antipode_laws.specs.Antipode.{are_in_range, nothing, tree_terms, IsAntipode}
-use Rattle.antipode_laws.specs.Constants.{expected, IsConstants}
-use Rattle.antipode_laws.proofs.SymbolsKept.{values_over_types, tree_over_types, expected_over_types}
+use Rattle.antipode_laws.specs.Antipode.{nothing, IsAntipode}
+use Rattle.antipode_laws.specs.Constants.{IsConstants}
+use Rattle.twisted_antipode.specs.Held.{AreOverExpectations}
+use Rattle.twisted_antipode.specs.Kinds.{AreTyped, AreOverTrees}
 use Rattle.twisted_antipode.specs.Values.{IsPolyOf}
-use Rattle.twisted_antipode.proofs.Pooled.{kept_at}
 use Rattle.tree_details.specs.Values.{IsPolynomialOf, recentred_pairs}
-use Rattle.tree_details.proofs.ValueSymbols.{polynomial_of}
+use Rattle.tree_details.proofs.ValueSymbols.{over_trees, over_expectations}
 
 -- the terms of the coproducts
 pub terms_found : (b d : TablesContent) (i : ℕ) (ts : List ExtractTerm) → AreGrown b d → i < length b.pool.trees → AreKnownTerms (grove_of d) ts → terms_in (grove_of d) ts ≡ whole_terms (coproduct_of b.pool i)
@@ -49,8 +47,12 @@ terms_stay b d i ts grove grown h = (finished_grown (grove_of b) (grove_of d) gr
 pub recentred_stay : (c d : Content) (i : ℕ) (ts : List RightTerm) → IsGrown c d → recentring.IsTerms c i ts → recentring.IsTerms d i ts
 recentred_stay c d i ts grown h = (fits_grown c d grown ((i, ts) ∷ []) (h, tt)).0
 
+-- a tree stays where it is
+pub still_there : (b d : TablesContent) (i : ℕ) → AreGrown b d → i < length b.pool.trees → (i < length d.pool.trees) × (tree_at d.pool i ≡ tree_at b.pool i)
+still_there b d i grown known = (omega (arith, grown_length b.pool d.pool grown.pool, known), grown_at b.pool d.pool i grown.pool known)
+
 -- recentring terms, as pairs
-counted : Recentred × ℤ → Recentred × ℕ
+abbrev counted : Recentred × ℤ → Recentred × ℕ
 counted x = (x.0, unsigned_abs x.1)
 
 back : (xs : List (Recentred × ℕ)) → map counted (lines.whole_terms xs) ≡ xs
@@ -68,22 +70,23 @@ pub recentred_pairs_of : (c : Content) (ts : List RightTerm) (xs : List (Recentr
 recentred_pairs_of c ts xs h = counted_in c ts ∙ ap (map counted) h ∙ back xs
 
 -- the values of a tree
-mass_fits : (p : Poly) (n : ℕ) → p.mass ≡ pos n → n < overflow
-mass_fits p n h = search rules
+mass_fits : (p : Poly) (n : ℕ) → unsigned_abs p.mass < overflow → p.mass ≡ pos n → n < overflow
+mass_fits p n h e = let same : unsigned_abs p.mass ≡ n = ap unsigned_abs e ∙ whole n in omega (arith, h, same)
+  where
+    whole : (n : ℕ) → unsigned_abs (pos n) ≡ n
+    whole n = omega (arith, ints)
 
-module _ (eq : Equation) (c : Content) (i : ℕ) (p : Poly) (pooled : IsPooled c) (types : c.types ≡ eq.types) (known : i < length c.trees) (poly : IsPoly p) where
-  pub antipode_found : ((a : Plain → Weighed) → IsAntipode c.types a → IsPolyOf (a (tree_at c i)) p) → (a : Plain → Weighed) → IsAntipode eq.types a
-      → IsPolynomialOf eq (a (tree_at c i)).terms p × ((a (tree_at c i)).mass < overflow)
-  antipode_found found a is =
+module _ (eq : Equation) (c : Content) (t : Plain) (p : Poly) (types : c.types ≡ eq.types) (poly : IsPoly p) (range : unsigned_abs p.mass < overflow) where
+  pub antipode_found : AreOverTrees c.types (terms_of p.terms) → ((a : Plain → Weighed) → IsAntipode c.types a → IsPolyOf (a t) p) → (a : Plain → Weighed) → IsAntipode eq.types a
+      → IsPolynomialOf eq (a t).terms p × ((a t).mass < overflow)
+  antipode_found trees found a is =
       let value = found a (subst (λ (ty : Types). IsAntipode ty a) (sym types) is) in
-      let typed = subst (λ (ty : Types). HasTypes ty (tree_at c i)) types (kept_at c i pooled known).known in
-      (polynomial_of eq (a (tree_at c i)).terms p (values_over_types eq.types tree_terms (tree_over_types eq.types) a nothing (λ t w typed h. absurd cc) is (tree_at c i) typed) poly value.coefficients,
-      mass_fits p (a (tree_at c i)).mass value.mass)
+      let typed = subst (λ (ty : Types). AreOverTrees ty (terms_of p.terms)) types trees in
+      (record { poly = poly; coefficients = value.coefficients; printed = over_trees eq.types eq.parameters (terms_of p.terms) poly.each typed }, mass_fits p (a t).mass range value.mass)
 
-  pub constant_found : ((k : Plain → Weighed) → IsConstants c.types nothing k → IsPolyOf (k (tree_at c i)) p) → (k : Plain → Weighed) → IsConstants eq.types nothing k
-      → IsPolynomialOf eq (k (tree_at c i)).terms p × ((k (tree_at c i)).mass < overflow)
-  constant_found found k is =
+  pub constant_found : AreTyped c.types (terms_of p.terms) → AreOverExpectations (terms_of p.terms) → ((k : Plain → Weighed) → IsConstants c.types nothing k → IsPolyOf (k t) p)
+      → (k : Plain → Weighed) → IsConstants eq.types nothing k → IsPolynomialOf eq (k t).terms p × ((k t).mass < overflow)
+  constant_found types_of expected found k is =
       let value = found k (subst (λ (ty : Types). IsConstants ty nothing k) (sym types) is) in
-      let typed = subst (λ (ty : Types). HasTypes ty (tree_at c i)) types (kept_at c i pooled known).known in
-      (polynomial_of eq (k (tree_at c i)).terms p (values_over_types eq.types (expected eq.types) (expected_over_types eq.types) k nothing (λ t w typed h. absurd cc) is (tree_at c i) typed) poly value.coefficients,
-      mass_fits p (k (tree_at c i)).mass value.mass)
+      let typed = subst (λ (ty : Types). AreTyped ty (terms_of p.terms)) types types_of in
+      (record { poly = poly; coefficients = value.coefficients; printed = over_expectations eq.types eq.parameters (terms_of p.terms) poly.each typed expected }, mass_fits p (k t).mass range value.mass)

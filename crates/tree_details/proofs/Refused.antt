@@ -1,5 +1,5 @@
 -- The first quantity of a detail that is out of range.
-use Rattle.std.proofs.Common.{◌≡◌, ◌⊎◌, inl, inr, ℕ, ◌<◌, ◌≤◌, Bool, true, false, List, [], ◌∷◌, refl, sym, ap, ◌∙◌, subst, arith, Option, None, ltb-true}
+use Rattle.std.proofs.Common.{◌≡◌, ◌⊎◌, inl, inr, ℕ, ◌<◌, ◌≤◌, Bool, true, false, List, [], ◌∷◌, refl, sym, ap, ◌∙◌, subst, arith, Option, rules, ltb-true}
 use Rattle.std.specs.List.{AllByRecursion}
 use Rattle.std.proofs.lemmas.Bool.{and_parts}
 use Rattle.exact_sums.specs.Saturating.{overflow}
@@ -32,14 +32,14 @@ all_in_range [] h = tt
 all_in_range (x ∷ xs) h = let both = and_parts _ _ h in (ltb-true _ _ both.0, all_in_range xs both.1)
 
 pub not_in_range : (xs : List (Extracted × ℕ)) → (terms.AreInRange xs → ⊥) → are_in_range xs ≡ false
-not_in_range xs no = (elim (are_in_range xs) as (λ b. are_in_range xs ≡ b → are_in_range xs ≡ false) [ true ↦ λ h. absurd (no (all_in_range xs h)) | false ↦ λ h. h ]) refl
+not_in_range xs none = (elim (are_in_range xs) as (λ b. are_in_range xs ≡ b → are_in_range xs ≡ false) [ true ↦ λ h. absurd (none (all_in_range xs h)) | false ↦ λ h. h ]) refl
 
 in_range : (xs : List (Extracted × ℕ)) → terms.AreInRange xs → are_in_range xs ≡ true
 in_range [] h = refl
 in_range (x ∷ xs) h = let first = h.0 in let rest = in_range xs h.1 in search rules
 
 pub still_in_range : (xs : List (Extracted × ℕ)) → terms.AreInRange xs → are_in_range xs ≡ false → ⊥
-still_in_range xs h no = let both : true ≡ false = sym (in_range xs h) ∙ no in cc
+still_in_range xs h k = let both : true ≡ false = sym (in_range xs h) ∙ k in cc
 
 -- another statement of the quantity
 pub refused_as : (id : TreeId) (P Q : Quantity → Type 0) (e : ValuesError) → ((q : Quantity) → P q → Q q) → IsRefusedFor id P e → IsRefusedFor id Q e
@@ -56,15 +56,15 @@ module _ (eq : Equation) (ty : Types) (t : Plain) (id : TreeId) (e : AntipodeErr
       at (antipodes.CoefficientTooLarge parts.Antipode) k = (refl, (refl, λ a is. k a (subst (λ (u : Types). IsAntipode u a) (sym types) is)))
       at (antipodes.CoefficientTooLarge parts.Constant) k = absurd k
 
-  pub constant_refused : terms.AreInRange (extraction_terms ty t) → IsConstantRefused ty nothing t e
+  pub constant_refused : (held : Plain → Option Weighed) → ((c : Plain → Weighed) → IsConstants eq.types nothing c → IsConstants ty held c) → terms.AreInRange (extraction_terms ty t) → IsConstantRefused ty held t e
       → IsRefusedFor id (λ q. (q ≡ Constant) × ((c : Plain → Weighed) → IsConstants eq.types nothing c → overflow ≤ (c t).mass)) (of_antipode id e)
-  constant_refused range h = at e h
+  constant_refused held same range h = at e h
     where
-      at : (f : AntipodeError) → IsConstantRefused ty nothing t f → IsRefusedFor id (λ q. (q ≡ Constant) × ((c : Plain → Weighed) → IsConstants eq.types nothing c → overflow ≤ (c t).mass)) (of_antipode id f)
+      at : (f : AntipodeError) → IsConstantRefused ty held t f → IsRefusedFor id (λ q. (q ≡ Constant) × ((c : Plain → Weighed) → IsConstants eq.types nothing c → overflow ≤ (c t).mass)) (of_antipode id f)
       at antipodes.Memory k = tt
       at (antipodes.CoefficientTooLarge parts.Extraction) k = absurd (still_in_range (extraction_terms ty t) range k.1)
       at (antipodes.CoefficientTooLarge parts.Antipode) k = absurd k
-      at (antipodes.CoefficientTooLarge parts.Constant) k = (refl, (refl, λ c is. k.1.1 c (subst (λ (u : Types). IsConstants u nothing c) (sym types) is)))
+      at (antipodes.CoefficientTooLarge parts.Constant) k = (refl, (refl, λ c is. k.2 c (same c is)))
 
 -- the quantities in their order
 module _ (eq : Equation) (a c : Plain → Weighed) (t : Plain) where
@@ -93,13 +93,13 @@ module _ (eq : Equation) (a c : Plain → Weighed) (t : Plain) where
   antipode_first q h = inl h
 
   pub constant_first : (q : Quantity) → (a t).mass < overflow → (q ≡ Constant) × (overflow ≤ (c t).mass) → IsFirstOf Past Polynomials q
-  constant_first q h k = inr (below (a t).mass h, inl (k.0, refl, k.1))
+  constant_first q h k = inr (below (a t).mass h, inl (k.0, (refl, k.1)))
 
   pub differential_first : (q : Quantity) → (a t).mass < overflow → (c t).mass < overflow → IsFirstOf (IsDifferentialPast eq t) (quantities_at eq.unknowns) q → IsFirstOf Past Polynomials q
   differential_first q h k d = inr (below (a t).mass h, inr ((λ p. below (c t).mass k p.1), first_at eq.unknowns q d))
 
   pub extraction_first : (q : Quantity) → (q ≡ Extraction) × (terms.AreInRange (extraction_terms eq.types t) → ⊥) → IsFirstPast eq a c t q
-  extraction_first q h = inl (h.0, refl, not_in_range (extraction_terms eq.types t) h.1)
+  extraction_first q h = inl (h.0, (refl, not_in_range (extraction_terms eq.types t) h.1))
 
   extraction_range : terms.AreInRange (extraction_terms eq.types t) → Past Extraction → ⊥
   extraction_range h p = still_in_range (extraction_terms eq.types t) h p.1

@@ -1,42 +1,40 @@
 -- The values of trees can be printed: their symbols are trees over the types, and expectations of these.
-use Rattle.std.proofs.Common.{◌≡◌, ℕ, List, [], ◌∷◌}
+use Rattle.std.proofs.Common.{ℕ, List, [], ◌∷◌}
 use Rattle.std.specs.List.{AllByRecursion}
 use Rattle.degree_numbers.specs.declared.types.Types.{Types}
-use Rattle.equations.specs.declared.equation.Equation.{Equation}
-use Rattle.symbol_polys.specs.declared.poly.Poly.{Poly}
 use Rattle.symbol_polys.specs.Symbols.{PlainSymbol, parameter, variable, noise, tree, expectation, IsMonomial}
-use Rattle.symbol_polys.specs.Polynomials.{PlainTerm, monomials, HaveSameCoefficients}
+use Rattle.symbol_polys.specs.Polynomials.{PlainTerm, monomials}
 use Rattle.symbol_polys.specs.Text.{IsOver, IsTermOver}
-use Rattle.symbol_polys.specs.View.{terms_of, IsPoly}
-use Rattle.symbol_polys.proofs.Collected.{collected-all}
-use Rattle.antipode_laws.specs.Symbols.{IsOverTypes, AreOverTypes}
-use Rattle.tree_details.specs.Values.{IsPolynomialOf}
+use Rattle.twisted_antipode.specs.Held.{IsExpectation, AreOverExpectations}
+use Rattle.twisted_antipode.specs.Kinds.{IsTyped, AreTyped, IsTreeOver, AreOverTrees}
 
 module _ (ty : Types) (ps : List (List ℕ)) where
-  over_symbol : (s : PlainSymbol) → IsOverTypes ty s → IsOver ty ps s
-  over_symbol (parameter i) h = absurd h
-  over_symbol (variable k m) h = absurd h
-  over_symbol (noise k) h = absurd h
-  over_symbol (tree t) h = h
-  over_symbol (expectation t) h = h
+  tree_symbol : (s : PlainSymbol) → IsTreeOver ty s → IsOver ty ps s
+  tree_symbol (parameter i) h = absurd h
+  tree_symbol (variable k m) h = absurd h
+  tree_symbol (noise k) h = absurd h
+  tree_symbol (tree t) h = h
+  tree_symbol (expectation t) h = absurd h
 
-  over_monomial : (m : List PlainSymbol) → AllByRecursion (IsOverTypes ty) m → AllByRecursion (IsOver ty ps) m
-  over_monomial [] h = tt
-  over_monomial (s ∷ m) h = (over_symbol s h.0, over_monomial m h.1)
+  expected_symbol : (s : PlainSymbol) → IsTyped ty s → IsExpectation s → IsOver ty ps s
+  expected_symbol (parameter i) h k = absurd k
+  expected_symbol (variable l m) h k = absurd k
+  expected_symbol (noise l) h k = absurd k
+  expected_symbol (tree t) h k = h
+  expected_symbol (expectation t) h k = h
 
-  over_terms : (ts : List PlainTerm) → AreOverTypes ty ts → AllByRecursion (AllByRecursion (IsOver ty ps)) (monomials ts)
-  over_terms [] h = tt
-  over_terms (t ∷ ts) h = (over_monomial t.symbols h.0, over_terms ts h.1)
+  tree_monomial : (m : List PlainSymbol) → AllByRecursion (IsTreeOver ty) m → AllByRecursion (IsOver ty ps) m
+  tree_monomial [] h = tt
+  tree_monomial (s ∷ m) h = (tree_symbol s h.0, tree_monomial m h.1)
 
-  both : (ts : List PlainTerm) → AllByRecursion (AllByRecursion (IsOver ty ps)) (monomials ts) → AllByRecursion IsMonomial (monomials ts) → AllByRecursion (IsTermOver ty ps) ts
-  both [] h k = tt
-  both (t ∷ ts) h k = (record { over = h.0; trees = k.0.trees }, both ts h.1 k.1)
+  expected_monomial : (m : List PlainSymbol) → AllByRecursion (IsTyped ty) m → AllByRecursion IsExpectation m → AllByRecursion (IsOver ty ps) m
+  expected_monomial [] h k = tt
+  expected_monomial (s ∷ m) h k = (expected_symbol s h.0 k.0, expected_monomial m h.1 k.1)
 
-pub polynomial_of : (eq : Equation) (ts : List PlainTerm) (p : Poly) → AreOverTypes eq.types ts → IsPoly p → HaveSameCoefficients (terms_of p.terms) ts → IsPolynomialOf eq ts p
-polynomial_of eq ts p over poly same = record {
-  poly = poly;
-  coefficients = same;
-  printed =
-    both eq.types eq.parameters (terms_of p.terms)
-    (collected-all (AllByRecursion (IsOver eq.types eq.parameters)) p.mass (terms_of p.terms) ts poly same (over_terms eq.types eq.parameters ts over)) poly.each;
-}
+  pub over_trees : (ts : List PlainTerm) → AllByRecursion IsMonomial (monomials ts) → AreOverTrees ty ts → AllByRecursion (IsTermOver ty ps) ts
+  over_trees [] m h = tt
+  over_trees (t ∷ ts) m h = (record { over = tree_monomial t.symbols h.0; trees = m.0.trees }, over_trees ts m.1 h.1)
+
+  pub over_expectations : (ts : List PlainTerm) → AllByRecursion IsMonomial (monomials ts) → AreTyped ty ts → AreOverExpectations ts → AllByRecursion (IsTermOver ty ps) ts
+  over_expectations [] m h k = tt
+  over_expectations (t ∷ ts) m h k = (record { over = expected_monomial t.symbols h.0 k.0; trees = m.0.trees }, over_expectations ts m.1 h.1 k.1)

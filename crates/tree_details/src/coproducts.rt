@@ -77,9 +77,10 @@ fn put_extracted(
 ) -> Result<(), AllocError>
     requires { IsExtractKey (grove_of tables.now) (extraction.key_of term.now) }
     ensures { OnOk result (out.new.items ≡ out.old.items
-        ++ extraction_line tables.now.pool.types
-        (extracted_in (grove_of tables.now) (extraction.key_of term.now),
-        unsigned_abs term.now.coefficient)) }
+        ++ extraction_line tables.now.pool.types (
+          extracted_in (grove_of tables.now) (extraction.key_of term.now),
+          unsigned_abs term.now.coefficient,
+        )) }
 {
     let forest = forest_text(alloc, tables, term.forest)?;
     let quotient = tree_text(alloc, tables.pool(), term.quotient)?;
@@ -123,9 +124,10 @@ fn put_recentred(
 ) -> Result<(), AllocError>
     requires { IsRightKey pool.now (recentring.key_of term.now) }
     ensures { OnOk result (out.new.items ≡ out.old.items
-        ++ recentring_line pool.now.types
-        (recentred_in pool.now (recentring.key_of term.now),
-        unsigned_abs term.now.coefficient)) }
+        ++ recentring_line pool.now.types (
+          recentred_in pool.now (recentring.key_of term.now),
+          unsigned_abs term.now.coefficient,
+        )) }
 {
     let left = tree_text(alloc, pool, term.left)?;
     let right = tree_text(alloc, pool, term.right)?;

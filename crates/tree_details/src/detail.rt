@@ -66,18 +66,21 @@ fn put_head_lines(
     let answer = yes_or_no(vanishes(pool.types(), pool, id));
     put_line(out, b"tree ", tree.as_slice())?;
     put_line(out, b"degree ", degree)?;
-    put_line(out, b"edges ", Buffer::new().format(pool.edge_count(id)).as_bytes())?;
-    put_line(out, b"symmetry ", Buffer::new().format(symmetry(pool, id)).as_bytes())?;
+    put_line(
+        out,
+        b"edges ",
+        Buffer::new().format(pool.edge_count(id)).as_bytes(),
+    )?;
+    put_line(
+        out,
+        b"symmetry ",
+        Buffer::new().format(symmetry(pool, id)).as_bytes(),
+    )?;
     put_line(out, b"vanishes ", answer)
 }
 
 // The first lines of a tree.
-fn put_head(
-    out: &mut Vec<u8>,
-    alloc: Global,
-    pool: &Pool<'_>,
-    id: TreeId,
-) -> Result<(), AllocError>
+fn put_head(out: &mut Vec<u8>, alloc: Global, pool: &Pool<'_>, id: TreeId) -> Result<(), AllocError>
     requires { id.0 < length pool.now.trees }
     ensures { OnOk result ((degree : List ℕ)
         × IsDegreeText (degree_of pool.now.types (tree_at pool.now id.0))

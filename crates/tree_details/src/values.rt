@@ -8,7 +8,7 @@ ghost use Rattle.cutting_sizes.specs.Bounds.{IsBounded};
 ghost use Rattle.extraction_coproduct.specs.Finished.{coproduct_of, grove_of, AreGrown};
 ghost use Rattle.extraction_coproduct.specs.Finished as extraction;
 ghost use Rattle.extraction_coproduct.specs.Terms as terms;
-ghost use Rattle.recentring_coproduct.specs.Held as recentring;
+ghost use Rattle.recentring_coproduct.specs.Held as held;
 ghost use Rattle.recentring_coproduct.specs.Terms as lines;
 ghost use Rattle.gaussian_pairings.specs.Pairings.{noise_edges, pairs_of, ArePairings};
 ghost use Rattle.antipode_laws.specs.Weighed.{Weighed};
@@ -171,8 +171,8 @@ pub fn detail_values<'a>(
     requires pairings { ArePairings
         (noise_edges eq.now.types (tree_at tables.old.pool id.0)) (pairs_of pairings) }
     requires recentring { MatchOption recentring
-        (lines.AreInRange (recentring.recentring_of tables.old.pool id.0) → ⊥)
-        (λ ts. recentring.IsTerms tables.old.pool id.0 ts.now) }
+        (lines.AreInRange (held.recentring_of tables.old.pool id.0) → ⊥)
+        (λ ts. held.IsTerms tables.old.pool id.0 ts.now) }
     ensures detail { IfOk result (IsDetail eq.now tables.new) }
     ensures tree { IfOk result (λ d. d.tree ≡ id) }
     ensures range { OnOk result ((a c : Plain → Weighed) → IsAntipode eq.now.types a →
@@ -185,6 +185,7 @@ pub fn detail_values<'a>(
 {
     let mut work = Work { tables: 0 };
     let extraction = extraction_of(alloc, tables, id, &mut work)?;
+    tables.laws();
     let Some(recentring) = recentring else {
         return Err(ValuesError::TooLarge {
             tree: id,

@@ -7,7 +7,7 @@ ghost use Rattle.plain_trees.specs.Degree.{HasTypes};
 ghost use Rattle.plain_trees.specs.View.{plain};
 ghost use Rattle.tree_pool.specs.Content.{tree_at, IsGrown};
 ghost use Rattle.cutting_sizes.specs.Bounds.{IsFit};
-ghost use Rattle.recentring_coproduct.specs.Held as recentring;
+ghost use Rattle.recentring_coproduct.specs.Held as held;
 ghost use Rattle.recentring_coproduct.specs.Terms as lines;
 ghost use Rattle.gaussian_pairings.specs.Pairings.{noise_edges, pairs_of, ArePairings};
 ghost use Rattle.tree_values.specs.Quantities.{quantity_text};
@@ -114,8 +114,8 @@ fn recentring_of<'a>(
     requires known { id.0 < length pool.old.trees }
     requires fit { IsFit (tree_at pool.old id.0) }
     ensures terms { IfOk result (λ r. MatchOption r
-        (lines.AreInRange (recentring.recentring_of pool.new id.0) → ⊥)
-        (λ ts. recentring.IsTerms pool.new id.0 ts.now)) }
+        (lines.AreInRange (held.recentring_of pool.new id.0) → ⊥)
+        (λ ts. held.IsTerms pool.new id.0 ts.now)) }
     ensures memory { IfErr result (λ e. e ≡ Refusal.Memory) }
     ensures grown { IsGrown pool.old pool.new }
 {
