@@ -1,21 +1,19 @@
 -- What the recursion's answers say of antipodes and constants.
-use Rattle.std.proofs.Common.{◌≡◌, ℕ, ◌<◌, ◌≤◌, ◌==◌, nat_lt, pos, true, false, cond, List, [], ◌∷◌, inl, inr, length, Option, Some, None, Result, Ok, Err, IfOk, IfErr, refl, sym, ap, ◌∙◌, subst, arith}
-use Rattle.std.specs.List.{AllByRecursion}
-use Rattle.std.proofs.lemmas.Bool.{and_parts}
-use Rattle.std.proofs.lemmas.Bool.Decides.{Decides-eqb, nat_tests}
+use Rattle.std.proofs.Common.{◌≡◌, ℕ, ◌<◌, ◌≤◌, ◌==◌, pos, true, false, cond, List, [], ◌∷◌, inl, inr, length, Option, Some, None, Result, Ok, Err, IfOk, IfErr, refl, sym, ap, ◌∙◌, subst, arith}
+use Rattle.std.proofs.lemmas.Bool.Decides.{Decides-eqb}
 use Rattle.exact_sums.specs.Saturating.{overflow}
 use Rattle.degree_numbers.specs.declared.types.Types.{Types}
 use Rattle.plain_trees.specs.Plain.{Plain}
 use Rattle.plain_trees.specs.Degree.{HasTypes, is_empty_tree}
-use Rattle.plain_trees.specs.Coproducts.{Extracted, extraction_terms}
+use Rattle.plain_trees.specs.Coproducts.{extraction_terms}
 use Rattle.tree_pool.specs.Content.{Content, IsPooled, IsGrown, tree_at}
 use Rattle.tree_pool.proofs.Growth.{grown_at}
-use Rattle.extraction_coproduct.specs.Finished.{coproduct_of}
+use Rattle.extraction_coproduct.specs.Finished.{TablesContent, coproduct_of}
 use Rattle.extraction_coproduct.specs.Terms.{AreInRange}
 use Rattle.symbol_polys.specs.declared.poly.Poly.{Poly}
 use Rattle.symbol_polys.specs.View.{IsPoly, terms_of}
 use Rattle.antipode_laws.specs.Weighed.{Weighed, unit}
-use Rattle.antipode_laws.specs.Antipode.{are_in_range, from_smaller, value_at, tree_terms, nothing, IsAntipode}
+use Rattle.antipode_laws.specs.Antipode.{from_smaller, value_at, tree_terms, nothing, IsAntipode}
 use Rattle.antipode_laws.specs.Constants.{expected, IsConstants}
 use Rattle.antipode_laws.proofs.Solutions.{solution, is_solution}
 use Rattle.antipode_laws.proofs.OtherTerms.{all_members, member_of}
@@ -33,7 +31,9 @@ use Rattle.twisted_antipode.proofs.Pooled.{kept_at}
 use Rattle.twisted_antipode.proofs.KnownLaws.{held_first, good_grown, well_member}
 use Rattle.twisted_antipode.proofs.SolutionLaws.{well_of, over_member, each_held, ranges, has_held, good_solution, constants_before, constants_over, constants_typed, antipode_over, collected_over}
 use Rattle.twisted_antipode.proofs.HeldLaws.{over_grown}
-use Rattle.twisted_antipode.proofs.ValueLaws.{in_range}
+use Rattle.twisted_antipode.specs.Counts.{AreFinishedOver}
+use Rattle.twisted_antipode.proofs.CountLaws.{over_after}
+use Rattle.twisted_antipode.proofs.ValueLaws.{in_range, not_in_range}
 
 typed_at : (c : Content) (i : ℕ) → IsPooled c → i < length c.trees → HasTypes c.types (tree_at c i)
 typed_at c i pooled l = (kept_at c i pooled l).known
@@ -139,16 +139,6 @@ constant_typed c hs i (Ok p) pooled l poly value = λ typed.
 constant_typed c hs i (Err e) pooled l poly value = tt
 
 -- why there is none
-fits : (n : ℕ) → nat_lt n overflow ≡ true → n < overflow
-fits n h = grind (arith, nat_tests, h)
-
-all_fit : (xs : List (Extracted × ℕ)) → are_in_range xs ≡ true → AllByRecursion (λ (x : Extracted × ℕ). x.1 < overflow) xs
-all_fit [] h = tt
-all_fit (x ∷ xs) h = let both = and_parts (nat_lt x.1 overflow) (are_in_range xs) h in (fits x.1 both.0, all_fit xs both.1)
-
-pub out_of_range : (xs : List (Extracted × ℕ)) → (AllByRecursion (λ (x : Extracted × ℕ). x.1 < overflow) xs → ⊥) → are_in_range xs ≡ false
-out_of_range xs h = (elim (are_in_range xs) as (λ b. are_in_range xs ≡ b → b ≡ false) [ true ↦ λ e. absurd (h (all_fit xs e)) | false ↦ λ e. refl ]) refl
-
 pub has_first : (hs : List Held) (i : ℕ) → IsHeld hs i → first_held hs i ≡ None → ⊥
 has_first [] i h e = h
 has_first (k ∷ hs) i h e =
@@ -212,7 +202,13 @@ constant_refusal c hs i v (Err e) pooled l over range value is large =
 -- the coproduct of the tree that is asked
 pub coefficients_refused : (c : Content) (hs : List Held) (i : ℕ) → IsPooled c → AreHeldOver c hs → i < length c.trees → (IsHeld hs i → ⊥) → (AreInRange (coproduct_of c i) → ⊥) →
     IsConstantRefused c.types (held_over c hs) (tree_at c i) (CoefficientTooLarge quantity.Extraction)
-coefficients_refused c hs i pooled over l none large = (held_first c hs i pooled (well_of c hs over) l ∙ lacks hs i none, out_of_range (coproduct_of c i) large)
+coefficients_refused c hs i pooled over l none large = (held_first c hs i pooled (well_of c hs over) l ∙ lacks hs i none, not_in_range (coproduct_of c i) large)
+
+-- which coproducts are finished
+pub finished_after : (a b c : TablesContent) (hs : List Held) (i : ℕ) → IsGrown a.pool b.pool → IsGrown b.pool c.pool → i < length a.pool.trees → AreFinishedOver a b hs (tree_at a.pool i ∷ []) →
+    AreFinishedOver b c hs (tree_at b.pool i ∷ []) → AreFinishedOver a c hs (tree_at a.pool i ∷ [])
+finished_after a b c hs i g h l first rest =
+    over_after a b c hs hs (tree_at a.pool i ∷ []) g h (λ k j. j) first (subst (λ (s : Plain). AreFinishedOver b c hs (s ∷ [])) (grown_at a.pool b.pool i g l) rest)
 
 -- the antipode
 pub antipode_value : (c : Content) (hs : List Held) (i : ℕ) (v : Value) → hs ≡ [] → IsValueIn Antipode c hs (tree_at c i) v → (a : Plain → Weighed) → IsAntipode c.types a → IsValueOf (a (tree_at c i)) v

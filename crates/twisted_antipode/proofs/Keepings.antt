@@ -1,12 +1,11 @@
 -- What is held after a value is kept.
-use Rattle.std.proofs.Common.{◌≡◌, ◌⊎◌, ◌≤◌, ◌<◌, ℕ, unsigned_abs, inl, inr, List, Result, Ok, Err, OnOk, OnErr, None, subst}
+use Rattle.std.proofs.Common.{◌≡◌, ◌⊎◌, ◌≤◌, ℕ, inl, inr, List, Result, Ok, Err, OnOk, OnErr, None, subst}
 use Rattle.exact_sums.specs.Saturating.{overflow}
 use Rattle.symbol_polys.specs.declared.poly.Poly.{Poly}
-use Rattle.symbol_polys.specs.View.{IsPoly}
 use Rattle.antipode_laws.specs.Weighed.{Weighed}
 use Rattle.twisted_antipode.specs.declared.value.Value.{Value}
 use Rattle.twisted_antipode.specs.declared.value.Value.TheVariants.{Sum}
-use Rattle.twisted_antipode.specs.Values.{IsValueOf, IsPolyOf, IsKept}
+use Rattle.twisted_antipode.specs.Values.{IsValueOf, IsKept}
 use Rattle.twisted_antipode.specs.Held.{Held, weighed_of, with_held}
 use Rattle.twisted_antipode.specs.Known.{first_held, IsHeldWith}
 

@@ -1,18 +1,16 @@
 -- What is known stays so while the pool grows, and while more is held.
-use Rattle.std.proofs.Common.{◌≡◌, ◌==◌, ℕ, ◌+◌, ◌*◌, ◌<◌, ◌≤◌, ◌⊎◌, pos, unsigned_abs, Bool, true, false, cond, inl, inr, List, [], ◌∷◌, ◌++◌, length, Option, Some, None, refl, sym, ap, ◌∙◌, subst, arith}
-use Rattle.std.specs.List.{AllByRecursion}
+use Rattle.std.proofs.Common.{◌≡◌, ◌==◌, ℕ, ◌<◌, ◌⊎◌, true, false, cond, inl, inr, List, [], ◌∷◌, ◌++◌, length, Option, Some, None, refl, sym, ap, ◌∙◌, subst, arith}
 use Rattle.std.specs.Ordering.{is_eq}
-use Rattle.std.proofs.lemmas.Option.{slice_get-get_or}
 use Rattle.std.proofs.lemmas.Bool.Decides.{Decides-eqb}
 use Rattle.ordered_lists.specs.Members.{IsIn}
 use Rattle.exact_sums.specs.Saturating.{overflow}
 use Rattle.exact_sums.specs.Keyed.{IsExactTest, same_by}
 use Rattle.exact_sums.proofs.CollectedLaws.{same_by_exact}
 use Rattle.degree_numbers.specs.declared.types.Types.{Types}
-use Rattle.plain_trees.specs.Plain.{Plain, bare, tree_order}
+use Rattle.plain_trees.specs.Plain.{Plain, tree_order}
 use Rattle.plain_trees.specs.Degree.{HasTypes}
 use Rattle.plain_trees.proofs.OrderLaws.{tree_order_total, tree_exact}
-use Rattle.tree_pool.specs.Content.{Content, Holds, IsKept, IsPooled, IsGrown, tree_at}
+use Rattle.tree_pool.specs.Content.{Content, IsPooled, IsGrown, tree_at}
 use Rattle.tree_pool.proofs.Growth.{grown_at, grown_length}
 use Rattle.std.proofs.lemmas.Int.{ints}
 use Rattle.symbol_polys.specs.View.{IsPoly}

@@ -1,11 +1,13 @@
--- Values as the program makes them: a polynomial with its mass, or only that the mass is out of range.
+-- Values as the program makes them: a polynomial with its mass, or only that the mass is out of
+-- range.
 --   IsPolyOf w p == the polynomial p has the coefficients and the mass of w
 --   IsValueOf w v == v stands for w: it is such a polynomial, or the mass of w is out of range
 --   IsPolyInRange p == p is a polynomial with its mass, which is in range
 --   forest_weighed a fs == the product of the values that a gives the trees fs
 --   IsKept v == where v is a polynomial, it is one with a mass in range
 --   nothing_value, symbol_value s == the value 0, the value that is a symbol
---   sum_of w u, product_of w u, negative_of w == the sum and the product of two values, and minus a value
+--   sum_of w u, product_of w u, negative_of w == the sum and the product of two values, and minus a
+--       value
 use Rattle.std.specs.Prelude.{◌≡◌, ◌≤◌, ◌<◌, pos, neg_ℤ, unsigned_abs, List, [], ◌++◌, ⊤}
 use Rattle.exact_sums.specs.Saturating.{overflow, saturating_plus, saturating_times}
 use Rattle.symbol_polys.specs.declared.poly.Poly.{Poly}

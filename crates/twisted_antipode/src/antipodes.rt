@@ -1,5 +1,5 @@
 // The twisted antipode of a tree, and its constant.
-ghost use Rattle.std.specs.Prelude.{◌≡◌, ◌<◌, ◌≤◌, length, unsigned_abs, false, None, IfOk, IfErr};
+ghost use Rattle.std.specs.Prelude.{◌≡◌, ◌<◌, ◌≤◌, ◌∷◌, [], length, unsigned_abs, false, None, IfOk, IfErr};
 ghost use Rattle.exact_sums.specs.Saturating.{overflow};
 ghost use Rattle.symbol_polys.specs.View.{terms_of, IsPoly};
 ghost use Rattle.tree_pool.specs.Content.{tree_at};
@@ -13,6 +13,7 @@ ghost use Rattle.plain_trees.specs.Plain.{Plain};
 ghost use Rattle.plain_trees.specs.Degree.{is_empty_tree};
 ghost use Rattle.twisted_antipode.specs.declared.error.AntipodeError.TheVariants.{CoefficientTooLarge};
 ghost use Rattle.twisted_antipode.specs.Values.{IsPolyOf, IsValueOf, IsKept};
+ghost use Rattle.twisted_antipode.specs.Counts.{IsCountOf, AreFinishedOver};
 ghost use Rattle.twisted_antipode.specs.Known.{first_held};
 ghost use Rattle.twisted_antipode.specs.Kinds.{AreTyped, AreOverTrees, AreHeldTyped};
 ghost use Rattle.twisted_antipode.specs.Held.{held_over, AreHeldOver, AreOverExpectations, IsExtended, IsAntipodeRefused, IsConstantRefused};
@@ -61,7 +62,9 @@ pub fn antipode<'a>(
     ensures refusal { IfErr result (IsAntipodeRefused tables.old.pool.types
         (tree_at tables.old.pool id.0)) }
     ensures grown { AreGrown tables.old tables.new }
-    ensures count { work.old.tables ≤ work.new.tables }
+    ensures counted { IsCountOf tables.old tables.new work.old.tables work.new.tables }
+    ensures finished { AreFinishedOver tables.old tables.new []
+        (tree_at tables.old.pool id.0 ∷ []) }
 {
     tables.laws();
     let mut memo = Constants::new(alloc)?;
@@ -87,10 +90,11 @@ fn check_coefficients<'a>(
     ensures refusal { IfErr result (IsConstantRefused tables.old.pool.types
         (held_over tables.old.pool constants.now) (tree_at tables.old.pool id.0)) }
     ensures grown { AreGrown tables.old tables.new }
-    ensures count { work.old.tables ≤ work.new.tables }
+    ensures counted { IsCountOf tables.old tables.new work.old.tables work.new.tables }
+    ensures finished { AreFinishedOver tables.old tables.new constants.now
+        (tree_at tables.old.pool id.0 ∷ []) }
 {
     tables.laws();
-    let _finished = work.tables;
     if constants.held(id) {
         return Ok(());
     }
@@ -136,7 +140,9 @@ pub fn constant<'a>(
     ensures held_typed { AreHeldTyped tables.old.pool.types constants.old →
         AreHeldTyped tables.new.pool.types constants.new }
     ensures grown { AreGrown tables.old tables.new }
-    ensures count { work.old.tables ≤ work.new.tables }
+    ensures counted { IsCountOf tables.old tables.new work.old.tables work.new.tables }
+    ensures finished { AreFinishedOver tables.old tables.new constants.old
+        (tree_at tables.old.pool id.0 ∷ []) }
 {
     tables.laws();
     check_coefficients(alloc, tables, constants, id, work)?;

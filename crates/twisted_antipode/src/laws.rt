@@ -1,15 +1,18 @@
 // What callers that ask for the constants of many trees rest on.
-ghost use Rattle.std.specs.Prelude.{◌≡◌, ◌<◌, ℕ, if◌then◌else◌, List, [], length, Some, None};
+ghost use Rattle.std.specs.Prelude.{◌≡◌, ◌+◌, ◌<◌, ◌≤◌, ℕ, if◌then◌else◌, List, [], length, Some, None};
 ghost use Rattle.std.specs.Ordering.{is_eq};
+ghost use Rattle.ordered_lists.specs.Members.{IsIn};
 ghost use Rattle.plain_trees.specs.Plain.{Plain, tree_order};
 ghost use Rattle.plain_trees.specs.Degree.{HasTypes};
 ghost use Rattle.tree_pool.specs.Content.{Content, IsPooled, IsGrown, tree_at};
+ghost use Rattle.extraction_coproduct.specs.Finished.{TablesContent, AreGrown};
 ghost use Rattle.antipode_laws.specs.Weighed.{Weighed};
 ghost use Rattle.antipode_laws.specs.Constants.{IsConstants};
 ghost use Rattle.antipode_laws.specs.Sameness.{AreSameValues};
 ghost use Rattle.twisted_antipode.specs.declared.error.AntipodeError.{AntipodeError};
 ghost use Rattle.symbol_polys.specs.declared.poly.Poly.{Poly};
 ghost use Rattle.twisted_antipode.specs.Values.{IsPolyOf};
+ghost use Rattle.twisted_antipode.specs.Counts.{IsCountOf, AreFinishedAmong, unheld_of};
 ghost use Rattle.twisted_antipode.specs.Held.{Held, with_held, held_over, IsHeldOver, AreHeldOver, IsExtended, IsConstantRefused};
 
 /// Of constants that are held: where nothing is, no tree has a value; a value that is put in is
@@ -40,4 +43,23 @@ pub fn constants_laws()
         IsExtended c hs ks → HasTypes c.types t →
         IsConstantRefused c.types (held_over c ks) t e →
         IsConstantRefused c.types (held_over c hs) t e }
+{}
+
+/// Of the coproducts that calls of `constant`, one after the other, finish: they are those of trees
+/// of a list that is closed under components, each once, and none of a tree for which something was
+/// held in the beginning. So the count of the work rises by at most the number of the others.
+pub fn work_laws()
+    ensures nothing { (b : TablesContent) (n : ℕ) → IsCountOf b b n n }
+    ensures counted { (a b c : TablesContent) (l m n : ℕ) → IsCountOf a b l m → IsCountOf b c m n →
+        IsCountOf a c l n }
+    ensures finished { (a b c : TablesContent) (hs ks : List Held) (ts : List Plain) →
+        AreGrown b c → ((h : Held) → IsIn h hs → IsIn h ks) →
+        AreFinishedAmong b.pool hs ts a.finished b.finished →
+        AreFinishedAmong c.pool ks ts b.finished c.finished →
+        AreFinishedAmong c.pool hs ts a.finished c.finished }
+    ensures most { (old new : TablesContent) (hs : List Held) (ts : List Plain)
+        (before after : ℕ) → IsPooled new.pool → AreHeldOver new.pool hs →
+        IsCountOf old new before after →
+        AreFinishedAmong new.pool hs ts old.finished new.finished →
+        after ≤ before + length (unheld_of new.pool hs ts) }
 {}

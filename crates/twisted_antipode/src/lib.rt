@@ -14,4 +14,4 @@ mod value;
 pub use antipodes::{antipode, constant};
 pub use error::{AntipodeError, Quantity};
 pub use holding::Constants;
-pub use laws::constants_laws;
+pub use laws::{constants_laws, work_laws};

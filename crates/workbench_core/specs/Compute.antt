@@ -1,8 +1,9 @@
 -- What `compute` answers for a file, where nothing is held.
---   HasValues c k vs == vs are the rules of c, and the values of its listed trees with the constants k,
---       all of them in range
+--   HasValues c k vs == vs are the rules of c, and the values of its listed trees with the constants
+--       k, all of them in range
 --   ForConstants ty holds == something holds with the constants, where nothing is held
 --   of_tree ty t q == the refusal that names the tree t and its quantity q
+--   of_values pool e == the refusal e of values, in texts
 --   IsPastIn c k e == e names the first listed tree with a quantity that is out of range, and its
 --       first one
 --   GivesValues c r == r is the equation and these values, or that refusal
@@ -16,19 +17,23 @@ use Rattle.std.specs.Prelude.{◌≡◌, ℕ, List, length, Result, Ok, Err}
 use Rattle.degree_numbers.specs.declared.types.Types.{Types}
 use Rattle.plain_trees.specs.Plain.{Plain}
 use Rattle.plain_trees.specs.Text.{tree_text}
+use Rattle.tree_pool.specs.Content.{Content, tree_at}
 use Rattle.antipode_laws.specs.Weighed.{Weighed}
 use Rattle.antipode_laws.specs.Antipode.{nothing}
 use Rattle.antipode_laws.specs.Constants.{IsConstants}
 use Rattle.counterterm_report.specs.declared.values.ReportValues.{ReportValues}
 use Rattle.counterterm_report.specs.Report.{IsReportText}
 use Rattle.tree_values.specs.declared.quantity.Quantity.{Quantity}
+use Rattle.tree_values.specs.declared.error.ValuesError.{ValuesError}
+use Rattle.tree_values.specs.declared.error.ValuesError.TheVariants.{TooLarge}
+use Rattle.tree_values.specs.declared.error.ValuesError.TheVariants as too_large
 use Rattle.tree_values.specs.Quantities.{quantity_text}
 use Rattle.tree_values.specs.Ranges.{IsFirstRefused}
 use Rattle.tree_values.specs.Values.{AreValuesOf}
 use Rattle.workbench_core.specs.declared.compute.Computed.{Computed}
 use Rattle.workbench_core.specs.declared.compute.Reported.{Reported}
 use Rattle.workbench_core.specs.declared.refusal.Refusal.{Refusal}
-use Rattle.workbench_core.specs.declared.refusal.Refusal.TheVariants.{CoefficientTooLarge}
+use Rattle.workbench_core.specs.declared.refusal.Refusal.TheVariants.{CoefficientTooLarge, Memory}
 use Rattle.workbench_core.specs.Completed.{CompletedRule, IsForCompleted}
 
 pub record HasValues (c : CompletedRule) (k : Plain → Weighed) (vs : ReportValues) : Type 0 where
@@ -38,6 +43,10 @@ pub record HasValues (c : CompletedRule) (k : Plain → Weighed) (vs : ReportVal
 
 abbrev pub of_tree : Types → Plain → Quantity → Refusal
 of_tree ty t q = CoefficientTooLarge (tree_text ty t) (quantity_text ty q)
+
+abbrev pub of_values : Content → ValuesError → Refusal
+of_values pool (TooLarge tree q) = of_tree pool.types (tree_at pool tree.0) q
+of_values pool too_large.Memory = Memory
 
 pub record IsPastIn (c : CompletedRule) (k : Plain → Weighed) (e : Refusal) : Type 0 where
   pub tree : Plain

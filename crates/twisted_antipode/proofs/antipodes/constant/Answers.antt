@@ -1,4 +1,5 @@
-use Rattle.twisted_antipode.proofs.ConstantLaws.{IsLeft, left_over, IsConstantValue, constant_value, constant_answer, constant_expectations, constant_typed, constant_refusal}
+use Rattle.twisted_antipode.proofs.CountLaws.{count_after}
+use Rattle.twisted_antipode.proofs.ConstantLaws.{finished_after, IsLeft, left_over, IsConstantValue, constant_value, constant_answer, constant_expectations, constant_typed, constant_refusal}
 use Rattle.twisted_antipode.proofs.antipodes.constant.Goals as goal
 
 value : (c : goal.After-poly_of) → IsConstantValue c.args.tables.now.pool c.args.constants.now c.args.id.0 c.in_ok-value.field-0
@@ -51,3 +52,23 @@ pub returns-clause-refusal : goal.returns-clause-refusal
 returns-clause-refusal c =
     constant_refusal c.args.tables.now.pool c.args.constants.now c.args.id.0 c.in_ok-value.field-0 c.poly_of.result c.laws.ensures.grove.pooled c.requires.known c.requires.held
     c.in_ok-check_coefficients.ensures.range (value c) c.poly_of.ensures.refusal c.poly_of.ensures.large
+
+pub returns-in_err-value-clause-counted : goal.returns-in_err-value-clause-counted
+returns-in_err-value-clause-counted c =
+    count_after c.args.tables.now c.check_coefficients.new.tables c.value_at-value.new.tables c.args.work.now.tables c.check_coefficients.new.work.tables c.value_at-value.new.work.tables
+    c.check_coefficients.ensures.counted c.value_at-value.ensures.counted
+
+pub returns-in_err-value-clause-finished : goal.returns-in_err-value-clause-finished
+returns-in_err-value-clause-finished c =
+    finished_after c.args.tables.now c.check_coefficients.new.tables c.value_at-value.new.tables c.args.constants.now c.args.id.0 c.check_coefficients.ensures.grown.pool
+    c.value_at-value.ensures.grown.pool c.requires.known c.check_coefficients.ensures.finished c.value_at-value.ensures.finished
+
+pub returns-clause-counted : goal.returns-clause-counted
+returns-clause-counted c =
+    count_after c.args.tables.now c.check_coefficients.new.tables c.value_at-value.new.tables c.args.work.now.tables c.check_coefficients.new.work.tables c.value_at-value.new.work.tables
+    c.check_coefficients.ensures.counted c.value_at-value.ensures.counted
+
+pub returns-clause-finished : goal.returns-clause-finished
+returns-clause-finished c =
+    finished_after c.args.tables.now c.check_coefficients.new.tables c.value_at-value.new.tables c.args.constants.now c.args.id.0 c.check_coefficients.ensures.grown.pool
+    c.value_at-value.ensures.grown.pool c.requires.known c.check_coefficients.ensures.finished c.value_at-value.ensures.finished
