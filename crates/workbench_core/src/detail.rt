@@ -10,16 +10,13 @@ ghost use Rattle.cutting_sizes.specs.Bounds.{IsFit};
 ghost use Rattle.recentring_coproduct.specs.Held as held;
 ghost use Rattle.recentring_coproduct.specs.Terms as lines;
 ghost use Rattle.gaussian_pairings.specs.Pairings.{noise_edges, pairs_of, ArePairings};
-ghost use Rattle.tree_values.specs.Quantities.{quantity_text};
-ghost use Rattle.workbench_core.specs.Compute.{of_tree};
 ghost use Rattle.workbench_core.specs.Detail.{noise_count, IsTooNoisy, IsDetailed, IsDetailIn, IsDetailOf};
 
+use crate::compute::{tables_over, too_large};
 use crate::refusal::Refusal;
-use crate::tree_list::tree_text;
 use bumpalo::Bump;
 use equation_file::read_equation;
 use equations::Equation;
-use extraction_coproduct::Tables;
 use gaussian_pairings::{Pairing, PairingError, pairings};
 use limits::MOST_LISTED_DECORATIONS;
 use plain_trees::{Tree, read_tree};
@@ -28,7 +25,7 @@ use sqlite_items::Items;
 use std::alloc::Global;
 use tree_details::{detail_values, print_detail};
 use tree_pool::{Pool, TreeId};
-use tree_values::{Quantity, ValuesError, quantity_text};
+use tree_values::ValuesError;
 
 /// The detail of the tree with this text, for the equation of a file; or why there is none: the
 /// file writes down no equation; the text is not that of a tree over its types with at most 24
@@ -151,33 +148,12 @@ fn detail_in_pool<'a>(
     ensures no_fault { result ≢ Err Refusal.FileFault }
 {
     let recentring = recentring_of(alloc, arena, &mut pool, id)?;
-    let Ok(mut tables) = Tables::new(alloc, arena, &eq.types, pool) else {
-        return Err(Refusal::Memory);
-    };
+    let mut tables = tables_over(alloc, arena, &eq.types, pool)?;
     match detail_values(alloc, eq, &mut tables, id, pairings, recentring) {
         Ok(detail) => Ok(print_detail(alloc, eq, &tables, &detail)?),
         Err(ValuesError::TooLarge { quantity, .. }) => {
-            Err(too_large(alloc, tables.pool(), id, quantity)?)
+            Err(too_large(alloc, tables.pool(), id, quantity))
         }
         Err(ValuesError::Memory) => Err(Refusal::Memory),
     }
-}
-
-// The refusal that names this quantity of a tree.
-fn too_large(
-    alloc: Global,
-    pool: &Pool<'_>,
-    id: TreeId,
-    quantity: Quantity,
-) -> Result<Refusal, Refusal>
-    requires { id.0 < length pool.now.trees }
-    ensures named { IfOk result (λ e. e ≡ of_tree pool.now.types (tree_at pool.now id.0) quantity) }
-    ensures memory { IfErr result (λ e. e ≡ Refusal.Memory) }
-{
-    let tree = tree_text(alloc, pool, id)?;
-    let quantity = quantity_text(alloc, pool.types(), quantity)?;
-    Ok(Refusal::CoefficientTooLarge {
-        tree: Items::from_vec(tree),
-        quantity: Items::from_vec(quantity),
-    })
 }
