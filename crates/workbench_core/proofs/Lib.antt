@@ -1,5 +1,6 @@
 pub mod CompletedLemmas
 pub mod ComputeLemmas
+pub mod DetailLemmas
 mod Digits
 pub mod FileLemmas
 pub mod Fronts

@@ -46,6 +46,7 @@ pub fn detail_of(alloc: Global, file: &[u8], tree: &[u8]) -> Result<Vec<u8>, Ref
 }
 
 // The same for an equation.
+#[tactic(auto, using(crate::proofs::DetailLemmas::given_trees))]
 fn detail_in(alloc: Global, eq: &Equation, text: &[u8]) -> Result<Vec<u8>, Refusal>
     requires { IsEquation eq.now }
     ensures text { IfOk result (λ v. IsDetailIn eq.now text.now (Ok v.items)) }
