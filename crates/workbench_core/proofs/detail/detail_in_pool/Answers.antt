@@ -7,6 +7,7 @@ use Rattle.tree_pool.proofs.Growth.{grown_at, grown_length}
 use Rattle.cutting_sizes.specs.Bounds.{IsBounded}
 use Rattle.cutting_sizes.proofs.Recentred.{fit_bounded}
 use Rattle.gaussian_pairings.specs.Pairings.{noise_edges, pairs_of, ArePairings}
+use Rattle.tree_values.specs.Values.{IsRefusedFor}
 use Rattle.tree_details.specs.Detail.{IsDetailText}
 use Rattle.tree_details.specs.Ranges.{IsFirstPast, IsInRange}
 use Rattle.tree_details.proofs.Found.{still_there}
@@ -58,5 +59,7 @@ returns-in-Err-TooLarge-clause-refused c =
     let types = ap (λ (p : Content). p.types) c.pool-in-Err-TooLarge.ensures ∙ c.detail_values.ensures.grown.pool.types ∙ ap (λ (p : Content). p.types) c.in_ok-tables.ensures.pool ∙ first.types ∙ c.requires.types in
     let tree = ap (λ (p : Content). tree_at p id) c.pool-in-Err-TooLarge.ensures ∙ there.1 ∙ same in
     past_at eq (tree_at c.args.pool id) c.requires.few q c.too_large.result
-    (λ a k is_a is_k. subst (λ (u : Plain). IsFirstPast eq a k u q) same (c.in-Err-TooLarge.ensures.refusal a k is_a is_k).1)
+    (λ a k is_a is_k.
+    subst (λ (u : Plain). IsFirstPast eq a k u q) same
+    (subst (IsRefusedFor c.args.id (IsFirstPast eq a k (tree_at c.in_ok-tables.tables.pool id))) c.in-Err-TooLarge.field-0-is (c.in-Err-TooLarge.ensures.refusal a k is_a is_k)).1)
     (named_again pool eq.types id (tree_at c.args.pool id) q c.too_large.result types tree c.too_large.ensures.refusal)
