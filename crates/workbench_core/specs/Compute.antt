@@ -4,8 +4,8 @@
 --   ForConstants ty holds == something holds with the constants, where nothing is held
 --   of_tree ty t q == the refusal that names the tree t and its quantity q
 --   of_values pool e == the refusal e of values, in texts
---   IsPastIn c k e == e names the first listed tree with a quantity that is out of range, and its
---       first one
+--   IsPastIn eq ts k e == e names the first of the trees ts with a quantity that is out of range, and
+--       its first one
 --   GivesValues c r == r is the equation and these values, or that refusal
 --   Computing == a report, and the numbers of values that are reused and computed
 --   computing c == these three of what the program makes
@@ -15,6 +15,7 @@
 --   IsComputed file r == r is that for the completed rule of the file, or why there is none
 use Rattle.std.specs.Prelude.{◌≡◌, ℕ, List, length, Result, Ok, Err}
 use Rattle.degree_numbers.specs.declared.types.Types.{Types}
+use Rattle.equations.specs.declared.equation.Equation.{Equation}
 use Rattle.plain_trees.specs.Plain.{Plain}
 use Rattle.plain_trees.specs.Text.{tree_text}
 use Rattle.tree_pool.specs.Content.{Content, tree_at}
@@ -48,18 +49,19 @@ abbrev pub of_values : Content → ValuesError → Refusal
 of_values pool (TooLarge tree q) = of_tree pool.types (tree_at pool tree.0) q
 of_values pool too_large.Memory = Memory
 
-pub record IsPastIn (c : CompletedRule) (k : Plain → Weighed) (e : Refusal) : Type 0 where
+pub record IsPastIn (eq : Equation) (ts : List Plain) (k : Plain → Weighed) (e : Refusal) :
+    Type 0 where
   pub tree : Plain
   pub quantity : Quantity
-  pub first : IsFirstRefused c.eq nothing k c.trees tree quantity
-  pub is : e ≡ of_tree c.eq.types tree quantity
+  pub first : IsFirstRefused eq nothing k ts tree quantity
+  pub is : e ≡ of_tree eq.types tree quantity
 
 abbrev pub ForConstants : Types → ((Plain → Weighed) → Type 0) → Type 0
 ForConstants ty holds = (k : Plain → Weighed) × IsConstants ty nothing k × holds k
 
 abbrev pub GivesValues : CompletedRule → Result Reported Refusal → Type 0
 GivesValues c (Ok r) = (r.eq ≡ c.eq) × ForConstants c.eq.types (λ k. HasValues c k r.values)
-GivesValues c (Err e) = ForConstants c.eq.types (λ k. IsPastIn c k e)
+GivesValues c (Err e) = ForConstants c.eq.types (λ k. IsPastIn c.eq c.trees k e)
 
 pub record Computing : Type 0 where
   pub report : List ℕ
@@ -78,7 +80,7 @@ pub record IsReport (c : CompletedRule) (k : Plain → Weighed) (g : Computing) 
 
 abbrev pub WritesReport : CompletedRule → Result Computing Refusal → Type 0
 WritesReport c (Ok g) = ForConstants c.eq.types (λ k. IsReport c k g)
-WritesReport c (Err e) = ForConstants c.eq.types (λ k. IsPastIn c k e)
+WritesReport c (Err e) = ForConstants c.eq.types (λ k. IsPastIn c.eq c.trees k e)
 
 abbrev pub IsComputed : List ℕ → Result Computing Refusal → Type 0
 IsComputed file r = IsForCompleted WritesReport file r

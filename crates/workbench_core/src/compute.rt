@@ -1,13 +1,21 @@
 // The report of an equation file.
-ghost use Rattle.std.specs.Prelude.{◌≡◌, ◌≢◌, ◌⊎◌, ◌<◌, ◌≤◌, [], length, Ok, Err, IfOk, IfErr};
+ghost use Rattle.std.specs.Prelude.{◌≡◌, ◌≢◌, ◌⊎◌, ◌+◌, ◌<◌, ◌≤◌, [], length, Ok, Err, IfOk, IfErr};
+ghost use Rattle.std.specs.List.{All};
 ghost use Rattle.limits.specs.declared.TheConstants.{MOST_LISTED_TREES};
 ghost use Rattle.equations.specs.Accepted.{IsEquation};
+ghost use Rattle.plain_trees.specs.Plain.{Plain};
 ghost use Rattle.tree_pool.specs.Content.{tree_at};
+ghost use Rattle.rule_steps.specs.Steps.{trees_of};
+ghost use Rattle.cutting_sizes.specs.Bounds.{IsBounded};
+ghost use Rattle.antipode_laws.specs.Weighed.{Weighed};
+ghost use Rattle.antipode_laws.specs.Antipode.{nothing};
+ghost use Rattle.antipode_laws.specs.Constants.{IsConstants};
+ghost use Rattle.twisted_antipode.specs.Counts.{HasAllComponents};
 ghost use Rattle.counterterm_report.specs.Report.{IsReportText};
-ghost use Rattle.counterterm_report.specs.Values.{AreReportValues};
-ghost use Rattle.tree_values.specs.Values.{IsKnownRefusal};
+ghost use Rattle.counterterm_report.specs.Values.{IsTreeValues, AreReportValues};
+ghost use Rattle.tree_values.specs.Values.{AreValuesOf, IsKnownRefusal};
 ghost use Rattle.workbench_core.specs.Completed.{IsForCompleted};
-ghost use Rattle.workbench_core.specs.Compute.{computing, of_tree, of_values, GivesValues, IsComputed};
+ghost use Rattle.workbench_core.specs.Compute.{computing, of_tree, of_values, ForConstants, IsPastIn, GivesValues, IsComputed};
 
 use crate::completed::{Completed, complete_file};
 use crate::refusal::Refusal;
@@ -48,7 +56,7 @@ pub fn compute_of(alloc: Global, file: &[u8], work: &mut Work) -> Result<Compute
     ensures report { IfOk result (λ c. IsComputed file.now (Ok (computing c))) }
     ensures refused { IfErr result (λ e. (e ≡ Refusal.Memory) ⊎ IsComputed file.now (Err e)) }
     ensures no_fault { result ≢ Err Refusal.FileFault }
-    ensures count { work.old.tables ≤ work.new.tables }
+    ensures work { IfOk result (λ c. work.new.tables ≤ work.old.tables + c.computed) }
 {
     let reported = report_of(alloc, file, work)?;
     print_computed(alloc, &reported)
@@ -63,7 +71,8 @@ pub fn report_of(alloc: Global, file: &[u8], work: &mut Work) -> Result<Reported
     ensures refused { IfErr result (λ e. (e ≡ Refusal.Memory)
         ⊎ IsForCompleted GivesValues file.now (Err e)) }
     ensures no_fault { result ≢ Err Refusal.FileFault }
-    ensures count { work.old.tables ≤ work.new.tables }
+    ensures work { IfOk result (λ r.
+        work.new.tables ≤ work.old.tables + length r.values.trees) }
 {
     let arena = Bump::new(alloc);
     let Completed {
@@ -74,16 +83,39 @@ pub fn report_of(alloc: Global, file: &[u8], work: &mut Work) -> Result<Reported
         pool,
     } = complete_file(alloc, &arena, file)?;
     let mut tables = tables_over(alloc, &arena, &eq.types, pool)?;
+    let values = values_in(alloc, &eq, &mut tables, trees.as_slice(), work)?;
+    Ok(with_values(eq, base, rule, values))
+}
+
+// The values of these trees, where nothing is held. At most one extraction coproduct is finished
+// for each tree, where all components of the trees are among them.
+fn values_in(
+    alloc: Global,
+    eq: &Equation,
+    tables: &mut Tables<'_>,
+    ids: &[TreeId],
+    work: &mut Work,
+) -> Result<Items<TreeValues>, Refusal>
+    requires equation { IsEquation eq.now }
+    requires types { tables.old.pool.types ≡ eq.now.types }
+    requires known { All (λ id. id.0 < length tables.old.pool.trees) ids.now }
+    requires bounded { All (λ id. IsBounded (tree_at tables.old.pool id.0)) ids.now }
+    ensures values { IfOk result (λ vs. (k : Plain → Weighed) →
+        IsConstants eq.now.types nothing k →
+        AreValuesOf eq.now nothing k (trees_of tables.old.pool ids.now) vs) }
+    ensures printed { IfOk result (All (IsTreeValues eq.now)) }
+    ensures refused { IfErr result (λ e. (e ≡ Refusal.Memory)
+        ⊎ ForConstants eq.now.types
+        (λ k. IsPastIn eq.now (trees_of tables.old.pool ids.now) k e)) }
+    ensures no_fault { result ≢ Err Refusal.FileFault }
+    ensures work { HasAllComponents eq.now.types (trees_of tables.old.pool ids.now) →
+        work.new.tables ≤ work.old.tables + length ids.now }
+{
     let mut constants = no_constants(alloc)?;
-    match all_values(
-        alloc,
-        &eq,
-        &mut tables,
-        &mut constants,
-        trees.as_slice(),
-        work,
-    ) {
-        Ok(values) => Ok(with_values(eq, base, rule, values)),
+    let values = all_values(alloc, eq, tables, &mut constants, ids, work);
+    tables.laws();
+    match values {
+        Ok(values) => Ok(values),
         Err(e) => Err(values_refusal(alloc, tables.pool(), e)),
     }
 }
