@@ -1,5 +1,5 @@
 -- The detail of a tree that is given as a text.
-use Rattle.std.proofs.Common.{◌≡◌, ◌≢◌, ◌<◌, ◌≤◌, ◌⊎◌, inl, inr, ℕ, List, length, Result, Ok, Err, refl, sym, ap, ◌∙◌, subst, arith}
+use Rattle.std.proofs.Common.{◌≡◌, ◌<◌, ◌≤◌, ◌⊎◌, inl, inr, ℕ, List, length, Ok, Err, refl, ap, ◌∙◌, subst, arith}
 use Rattle.limits.specs.declared.TheConstants.{MOST_LISTED_DECORATIONS, MOST_PAIRED_NOISES}
 use Rattle.degree_numbers.specs.declared.types.Types.{Types}
 use Rattle.equations.specs.declared.equation.Equation.{Equation}
@@ -24,7 +24,6 @@ use Rattle.workbench_core.specs.declared.refusal.Refusal.{Refusal}
 use Rattle.workbench_core.specs.declared.refusal.Refusal.TheVariants.{Memory}
 use Rattle.workbench_core.specs.Compute.{of_tree}
 use Rattle.workbench_core.specs.Detail.{noise_count, IsTooNoisy, IsDetailed, IsDetailIn}
-use Rattle.workbench_core.specs.GivenTree.{IsForTree}
 use Rattle.workbench_core.specs.Refusals.{of_tree_error}
 
 -- the text is refused, or there was no memory

@@ -1,4 +1,4 @@
-use Rattle.std.proofs.Common.{◌<◌, inl, length, ℕ, List, sym, ap, ◌∙◌, subst, arith}
+use Rattle.std.proofs.Common.{◌<◌, inl, length, sym, ap, ◌∙◌, subst, arith}
 use Rattle.std.proofs.lemmas.Result.{err_from_is_err_and}
 use Rattle.plain_trees.specs.Plain.{Plain}
 use Rattle.tree_pool.specs.Content.{Content, tree_at}
