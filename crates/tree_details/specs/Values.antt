@@ -1,6 +1,6 @@
 -- The values of a tree, of which its detail is written.
---   IsPolynomialOf eq ts p == the polynomial p has the coefficients of the terms ts, and its symbols
---       are named by the equation
+--   IsPolynomialOf eq ts p == the polynomial p has the coefficients of the terms ts, and its
+--       symbols are named by the equation
 --   polynomial_lines eq p == the lines of the polynomials p
 --   recentred_pairs c es == the terms es, as pairs of trees with their coefficients
 --   ArePolynomials eq t p == p has the twisted antipode of the tree t, its constant, where no
@@ -39,7 +39,8 @@ pub record IsPolynomialOf (eq : Equation) (ts : List PlainTerm) (p : Poly) : Typ
 
 abbrev pub polynomial_lines : Equation → Polynomials → List ℕ
 polynomial_lines eq p =
-    line (codes "antipode ") (printed eq p.antipode) ++ line (codes "constant ") (printed eq p.constant)
+    line (codes "antipode ") (printed eq p.antipode)
+    ++ line (codes "constant ") (printed eq p.constant)
     ++ differential_lines eq eq.unknowns p.differentials
 
 abbrev pub recentred_pairs : Content → List RightTerm → List (Recentred × ℕ)

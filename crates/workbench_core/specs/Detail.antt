@@ -42,13 +42,15 @@ ForValues ty holds =
     (a : Plain → Weighed) × (c : Plain → Weighed) × IsAntipode ty a × IsConstants ty nothing c
     × holds a c
 
-pub record IsWritten (eq : Equation) (a c : Plain → Weighed) (t : Plain) (r : Result (List ℕ) Refusal) : Type 0 where
+pub record IsWritten (eq : Equation) (a c : Plain → Weighed) (t : Plain)
+    (r : Result (List ℕ) Refusal) : Type 0 where
   pub range : IsInRange eq a c t
   pub text : List ℕ
   pub is_text : IsDetailText eq t text
   pub answer : r ≡ Ok text
 
-pub record IsPastAt (eq : Equation) (a c : Plain → Weighed) (t : Plain) (r : Result (List ℕ) Refusal) : Type 0 where
+pub record IsPastAt (eq : Equation) (a c : Plain → Weighed) (t : Plain)
+    (r : Result (List ℕ) Refusal) : Type 0 where
   pub quantity : Quantity
   pub first : IsFirstPast eq a c t quantity
   pub answer : r ≡ Err (of_tree eq.types t quantity)

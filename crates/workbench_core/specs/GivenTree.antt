@@ -13,7 +13,8 @@ use Rattle.plain_trees.specs.declared.error.TreeError.TheVariants.{Memory}
 use Rattle.workbench_core.specs.declared.refusal.Refusal.{Refusal}
 use Rattle.workbench_core.specs.Refusals.{of_tree_error}
 
-pub record IsTreeRefused {T : Type 0} (ty : Types) (text : List ℕ) (r : Result T Refusal) : Type 0 where
+pub record IsTreeRefused {T : Type 0} (ty : Types) (text : List ℕ) (r : Result T Refusal) :
+    Type 0 where
   pub error : TreeError
   pub cause : IsRefused ty MOST_LISTED_DECORATIONS text error
   pub not_memory : error ≢ Memory
