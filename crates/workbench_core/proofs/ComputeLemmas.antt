@@ -1,5 +1,5 @@
 -- The values and the report of a completed rule.
-use Rattle.std.proofs.Common.{◌≡◌, ◌≢◌, ◌+◌, ◌<◌, ◌≤◌, ◌⊎◌, inl, inr, ℕ, Bool, true, false, cond, List, [], ◌∷◌, map, length, Result, Ok, Err, IfOk, refl, sym, ap, ◌∙◌, subst, arith, Option}
+use Rattle.std.proofs.Common.{◌≡◌, ◌≢◌, ◌+◌, ◌<◌, ◌≤◌, ◌⊎◌, inl, inr, ℕ, Bool, true, false, cond, List, [], ◌∷◌, length, Result, Ok, Err, IfOk, refl, sym, ap, ◌∙◌, subst, arith, Option}
 use Rattle.std.specs.Prelude.{filter, is_none}
 use Rattle.std.specs.List.{All, AllByRecursion}
 use Rattle.std.specs.Ordering.{is_gt}
@@ -7,18 +7,17 @@ use Rattle.std.specs.declared.cmp.Ordering.{Ordering}
 use Rattle.std.specs.declared.cmp.Ordering.TheVariants.{Less, Greater}
 use Rattle.std.proofs.lemmas.List.{length-map}
 use Rattle.std.proofs.lemmas.Bool.{cases_lt}
-use Rattle.limits.specs.declared.TheConstants.{MOST_EDGES, MOST_LISTED_DECORATIONS, MOST_LISTED_TREES}
+use Rattle.limits.specs.declared.TheConstants.{MOST_LISTED_TREES}
 use Rattle.ordered_lists.specs.Members.{IsIn}
 use Rattle.ordered_lists.proofs.Members.{in_map, all_from_members}
 use Rattle.degree_numbers.specs.declared.types.Types.{Types}
 use Rattle.degree_numbers.specs.Degree.{degree_order, degree_zero}
 use Rattle.equations.specs.declared.equation.Equation.{Equation}
-use Rattle.plain_trees.specs.Plain.{Plain, edge_count_of, decoration_sum_of, tree_order}
+use Rattle.plain_trees.specs.Plain.{Plain, tree_order}
 use Rattle.plain_trees.specs.Canon.{canon}
 use Rattle.plain_trees.specs.Cutting.{components}
 use Rattle.plain_trees.specs.Coproducts.{Extracted, extraction_terms, with_tree, canon_forest}
 use Rattle.plain_trees.specs.Degree.{degree_of}
-use Rattle.plain_trees.specs.Text.{tree_text}
 use Rattle.tree_pool.specs.Content.{Content, IsGrown, IsPooled, tree_at}
 use Rattle.tree_pool.proofs.Growth.{grown_at}
 use Rattle.tree_pool.specs.declared.node.TreeId.{TreeId}
@@ -29,7 +28,7 @@ use Rattle.normal_rule.specs.Text.{AreKnown}
 use Rattle.normal_rule.proofs.Fits.{rule_rows}
 use Rattle.conforming_trees.specs.Listed.{IsListed, IsWholeList, IsTooLarge, HasTooManyTrees, HasTooLargeTree}
 use Rattle.rule_stages.specs.Closure.{IsClosedUnderCutting}
-use Rattle.cutting_sizes.specs.Bounds.{IsBounded, IsFit}
+use Rattle.cutting_sizes.specs.Bounds.{IsBounded}
 use Rattle.cutting_sizes.proofs.TermSums.{extraction_comes}
 use Rattle.antipode_laws.proofs.OtherTerms.{all_members}
 use Rattle.extraction_coproduct.specs.Finished.{TablesContent}
@@ -42,10 +41,8 @@ use Rattle.antipode_laws.specs.Constants.{expected, IsConstants}
 use Rattle.antipode_laws.proofs.Solutions.{solution, is_solution}
 use Rattle.twisted_antipode.specs.Held.{Held, held_over}
 use Rattle.counterterm_report.specs.declared.TreeValues.{TreeValues}
-use Rattle.counterterm_report.specs.declared.ReportValues.{ReportValues}
 use Rattle.counterterm_report.specs.Report.{IsReportText}
 use Rattle.counterterm_report.specs.Values.{IsTreeValues, AreReportValues}
-use Rattle.tree_values.specs.declared.Quantity.{Quantity}
 use Rattle.tree_values.specs.declared.ValuesError.{ValuesError}
 use Rattle.tree_values.specs.declared.ValuesError.TheVariants.{TooLarge}
 use Rattle.tree_values.specs.declared.ValuesError.TheVariants as too_large
@@ -56,7 +53,7 @@ use Rattle.workbench_core.specs.declared.compute.Computed.{Computed}
 use Rattle.workbench_core.specs.declared.refusal.Refusal.{Refusal}
 use Rattle.workbench_core.specs.declared.refusal.Refusal.TheVariants.{Memory}
 use Rattle.workbench_core.specs.Completed.{CompletedRule, completed_rule, HasFacts, IsForCompleted, IsCompletedFile}
-use Rattle.workbench_core.specs.Compute.{of_tree, of_values, HasValues, ForConstants, IsPastIn, GivesValues, WritesReport, IsComputed, Computing, computing}
+use Rattle.workbench_core.specs.Compute.{of_tree, of_values, ForConstants, IsPastIn, GivesValues, WritesReport, IsComputed, Computing, computing}
 use Rattle.workbench_core.proofs.CompletedLemmas.{file_goes_on}
 use Rattle.workbench_core.proofs.Onward.{file_onward}
 
