@@ -1,0 +1,10 @@
+//! Characters as tables: trees with their values, and the texts that they are read from.
+#![tactic(auto)]
+
+mod error;
+mod reading;
+mod table;
+
+pub use error::{CharacterError, CharacterPart};
+pub use reading::read_table;
+pub use table::{Character, CharacterRow};
