@@ -2,8 +2,12 @@
 #![tactic(auto)]
 
 mod error;
+mod lines;
+mod numbers;
 mod reading;
+mod rows;
 mod table;
+mod trees;
 
 pub use error::{CharacterError, CharacterPart};
 pub use reading::read_table;

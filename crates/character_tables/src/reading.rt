@@ -1,14 +1,39 @@
 // Tables are read from their texts.
-ghost use Rattle.std.specs.Prelude.{◌≡◌, IfOk, IfErr};
+ghost use Rattle.std.specs.Prelude.{◌≡◌, map, IfOk, IfErr};
 ghost use Rattle.tree_pool.specs.Content.{IsGrown};
+ghost use Rattle.character_tables.specs.Reading.{AreReadRows};
 ghost use Rattle.character_tables.specs.Rows.{rows_over, IsCharacter};
-ghost use Rattle.character_tables.specs.Texts.{IsTableText, IsTableRefused};
+ghost use Rattle.character_tables.specs.Texts.{IsTableText, AreRefused, IsTableRefused};
 
 use crate::error::CharacterError;
+use crate::lines::{parts_of, without_empty_end};
+use crate::rows::read_next_row;
 use crate::table::Character;
 use degree_numbers::Types;
+use sqlite_items::Items;
 use std::alloc::Global;
 use tree_pool::Pool;
+
+/// Reads the rows of a table from their lines, or names the first line that is none.
+fn read_lines(
+    alloc: Global,
+    types: &Types,
+    pool: &mut Pool<'_>,
+    lines: &[&[u8]],
+) -> Result<Character, CharacterError>
+    requires types { pool.old.types ≡ types.now }
+    ensures rows { IfOk result (λ g. AreReadRows pool.new (map (λ s. s.now) lines.now) g.rows) }
+    ensures refusal { IfErr result (AreRefused types.now (map (λ s. s.now) lines.now)) }
+    ensures grown { IsGrown pool.old pool.new }
+{
+    let mut rows = Items::new(alloc);
+    for i in 0..lines.len() {
+        if !read_next_row(alloc, types, pool, &mut rows, lines[i])? {
+            return Err(CharacterError::TableRefused { line: i as u64 + 1 });
+        }
+    }
+    Ok(Character { rows })
+}
 
 /// Reads the text of a table of a character: on each line the text of a tree, a space and a number,
 /// the trees in strictly ascending tree order. A tree is not `[]` and has at most 24 edges and a
@@ -29,6 +54,6 @@ pub fn read_table(
     ensures refusal { IfErr result (IsTableRefused types.now text.now) }
     ensures grown { IsGrown pool.old pool.new }
 {
-    let _ = alloc;
-    Err(CharacterError::Memory)
+    let parts = parts_of(alloc, text)?;
+    read_lines(alloc, types, pool, without_empty_end(parts.as_slice()))
 }
