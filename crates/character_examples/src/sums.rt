@@ -82,7 +82,10 @@ mod tests {
     fn sums_by_extraction(rt: HostRuntime) {
         let types = kpz_types(rt.alloc()).expect(&rt, "types");
         let cases: [(&[u8], &[u8]); 7] = [
-            (b"[xi] 2\n[X(0,1)*xi] 5\n", b"5 []\n2 [X(0,1)]\n1 [X(0,1)*xi]\n"),
+            (
+                b"[xi] 2\n[X(0,1)*xi] 5\n",
+                b"5 []\n2 [X(0,1)]\n1 [X(0,1)*xi]\n",
+            ),
             (b"[xi] 0\n[X(0,1)*xi] -5", b"-5 []\n1 [X(0,1)*xi]\n"),
             (b"[X(0,1)*xi] 5\n", b"Missing [xi]"),
             (b"", b"Missing [xi]"),
@@ -94,7 +97,9 @@ mod tests {
             ),
         ];
         for (table, text) in cases {
-            let said = answer(rt.alloc(), &types, Sum::Left, TREE, table, b"").expect(&rt, "answer");
+            let said = answer(rt.alloc(), &types, Sum::Left, TREE, table, b"").expect(
+                &rt, "answer",
+            );
             assert_eq!(rt; said.as_slice(), text);
         }
     }
@@ -107,7 +112,9 @@ mod tests {
             (b"", b"Missing [X(0,1)]"),
         ];
         for (table, text) in cases {
-            let said = answer(rt.alloc(), &types, Sum::Right, TREE, table, b"").expect(&rt, "answer");
+            let said = answer(rt.alloc(), &types, Sum::Right, TREE, table, b"").expect(
+                &rt, "answer",
+            );
             assert_eq!(rt; said.as_slice(), text);
         }
     }
@@ -122,7 +129,9 @@ mod tests {
             (b"[X(0,1)] 7\n", b"Missing [X(0,1)*xi]"),
         ];
         for (second, text) in cases {
-            let said = answer(rt.alloc(), &types, Sum::Product, TREE, first, second).expect(&rt, "answer");
+            let said = answer(rt.alloc(), &types, Sum::Product, TREE, first, second).expect(
+                &rt, "answer",
+            );
             assert_eq!(rt; said.as_slice(), text);
         }
     }
@@ -148,7 +157,9 @@ mod tests {
             ),
         ];
         for (table, text) in cases {
-            let said = answer(rt.alloc(), &types, Sum::Left, TREE, table, b"").expect(&rt, "answer");
+            let said = answer(rt.alloc(), &types, Sum::Left, TREE, table, b"").expect(
+                &rt, "answer",
+            );
             assert_eq!(rt; said.as_slice(), text);
         }
     }
