@@ -1,28 +1,25 @@
 -- What the statements that make the tables leave.
-use Rattle.std.proofs.Common.{◌≡◌, ◌≢◌, ℕ, codes, List, [], map, false, All, None, Ok, refl, sym, ap, subst, ◌∙◌, arith}
+use Rattle.std.proofs.Common.{◌≡◌, ℕ, codes, List, [], map, false, All, None, Ok, refl, sym, ap, subst, ◌∙◌}
 use Rattle.std.specs.List.{IsDistinct}
 use Rattle.std.specs.FinMap.{from_entries}
-use Rattle.sqlite.specs.Order.{Row}
+use Rattle.std.proofs.lemmas.List.Elements.{All-nil}
 use Rattle.sqlite.specs.Table.{Table}
 use Rattle.sqlite.specs.Schema.{Schema}
 use Rattle.sqlite.specs.Tree.{IsTable}
 use Rattle.sqlite.specs.Change.{created, next_tree, KeepsRows}
 use Rattle.sqlite.specs.Compile.{table_defined_by}
-use Rattle.sqlite.specs.Command.TheVariants.{Insert, CreateTable}
-use Rattle.sqlite.specs.Source.TheVariants.{Values}
+use Rattle.sqlite.specs.Command.TheVariants.{CreateTable}
 use Rattle.sqlite.specs.Effect.{Database}
-use Rattle.sqlite.specs.Does.{Tally, Does, lacks_sequence}
-use Rattle.sqlite.specs.State.{State, mode_of, Writes, Executes}
+use Rattle.sqlite.specs.Does.{Tally, lacks_sequence}
+use Rattle.sqlite.specs.State.{State, Writes, Executes}
 use Rattle.sqlite.specs.Listing.{understood}
 use Rattle.sqlite.proofs.Callers.{IsPlain, command_of, statement_of, runs_as}
 use Rattle.sqlite_tied.specs.Compute.{everything}
 use Rattle.result_keeper.specs.Kept.{bytes_cmp, row_cmp}
 use Rattle.result_keeper.specs.Entries.{AreApart}
 use Rattle.sqlite_keeper.specs.Schema.{no_schema, project_table, result_table, store_table, store_schema}
-use Rattle.sqlite_keeper.specs.Tables.{project_rows, result_rows, project_entry, result_entry, projects_in, results_in, IsProjectRow, IsResultRow, IsStore}
+use Rattle.sqlite_keeper.specs.Tables.{project_rows, result_rows, version_in, project_entry, result_entry, projects_in, results_in, IsProjectRow, IsResultRow, IsStore}
 use Rattle.sqlite_keeper.specs.Changes.{HasTables, IsEmptyStore}
-use Rattle.sqlite_keeper.proofs.Statements.{numbered_store, insert_version_text, version_terms, insert_version_is, insert_version_plain}
-use Rattle.sqlite_keeper.proofs.Writing.{adds}
 use Rattle.sqlite_keeper.proofs.Undone.{went, same_value}
 
 abbrev pub project_text : List ℕ
@@ -99,9 +96,6 @@ makes_result = makes result_text one_table result_table result_is result_plain
 pub makes_store : (old new : State) (count : ℕ) → old.now.schema ≡ two_tables → Executes store_text [] old new (Ok count) → Made two_tables store_table old.now new.now
 makes_store = makes store_text two_tables store_table store_is store_plain
 
-no_rows : (P : Row → Type 0) → All P []
-no_rows P = λ k d l. absurd (omega arith)
-
 -- the three tables, one after the other, are an empty store
 pub made_empty : (a b c d : Database) → Made no_schema project_table a b → Made one_table result_table b c → Made two_tables store_table c d → IsEmptyStore d
 unfolding IsDistinct
@@ -111,8 +105,8 @@ made_empty a b c d p r s =
     record {
       is = record {
         schema = s.schema;
-        projects = subst (All IsProjectRow) (sym projects) (no_rows IsProjectRow);
-        results = subst (All IsResultRow) (sym results) (no_rows IsResultRow);
+        projects = subst (All IsProjectRow) (sym projects) (All-nil IsProjectRow);
+        results = subst (All IsResultRow) (sym results) (All-nil IsResultRow);
         projects_ordered = subst IsTable (sym projects) tt;
         results_ordered = subst IsTable (sym results) tt;
         names = subst (λ l. AreApart bytes_cmp (map project_entry l)) (sym projects) tt;
@@ -123,8 +117,8 @@ made_empty a b c d p r s =
     }
 
 -- what has the same projects and results is a store with the same tables
-pub same_tables : (a b : Database) → IsStore a → b.schema ≡ store_schema → project_rows b ≡ project_rows a → result_rows b ≡ result_rows a → HasTables (projects_in a) (results_in a) b
-same_tables a b is schema projects results = record {
+pub same_tables : (a b : Database) (v : ℕ) → IsStore a → b.schema ≡ store_schema → project_rows b ≡ project_rows a → result_rows b ≡ result_rows a → version_in b ≡ v → HasTables v (projects_in a) (results_in a) b
+same_tables a b v is schema projects results version = record {
   is = record {
     schema = schema;
     projects = subst (All IsProjectRow) (sym projects) is.projects;
@@ -134,23 +128,7 @@ same_tables a b is schema projects results = record {
     names = subst (λ l. AreApart bytes_cmp (map project_entry l)) (sym projects) is.names;
     keys = subst (λ l. AreApart row_cmp (map result_entry l)) (sym results) is.keys;
   };
+  version = version;
   projects = ap (λ l. from_entries (map project_entry l)) projects;
   rows = ap (λ l. from_entries (map result_entry l)) results;
 }
-
-not_four : ◌≢◌ {A = ℕ} 0 4
-not_four e = omega (arith, e)
-
-two_not_four : ◌≢◌ {A = ℕ} 2 4
-two_not_four e = omega (arith, e)
-
--- the version goes into a table of its own
-pub version_kept : (old new : State) (count : ℕ) → IsStore old.now → Executes insert_version_text [] old new (Ok count) → HasTables (projects_in old.now) (results_in old.now) new.now
-version_kept old new count is h =
-    let db = old.now.trees in
-    let command = Insert 2 (Values version_terms 3) in
-    let w = runs_as insert_version_text [] old new store_schema is.schema command insert_version_is insert_version_plain count h in
-    let text = statement_of insert_version_text (understood store_schema insert_version_text) in
-    let done = subst (λ s. Does old.step_limit (mode_of old) [] (record old.now { schema = s }) text None command (Ok (w.tally, new.now))) is.schema w.changed in
-    let it = adds old.step_limit (mode_of old).keys (mode_of old) [] numbered_store.name 4 numbered_store.columns numbered_store.key numbered_store.primary [] [] numbered_store.checks 2 (Values version_terms 3) db w.tally new.now done in
-    same_tables old.now new.now is it.schema (it.others.0 not_four) (it.others.1.0 two_not_four)

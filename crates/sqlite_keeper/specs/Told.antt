@@ -5,9 +5,12 @@
 --   ascends r xs == r holds of each element and each later one
 --   in_order rows == the numbers of the rows rise
 --   is_project_row r, is_result_row r, is_store db == tests for IsProjectRow, IsResultRow and IsStore
---   kept_in db == the tables of version 2 with the projects and the rows of results of the database
---   told_of is_steady is_old db == these, over a store that is clean and open at all times, where the database is a store of version 2
-use Rattle.std.specs.Prelude.{Bool, true, false, not, ◌&&◌, ◌==◌, List, [], ◌∷◌, map, Option, Some, None, if◌then◌else◌}
+--   kept_in db == what the database holds: its version, the projects and the rows of results
+--   opened db == the same once a keeper is made over the database
+--   version_of is_old == the version of a keeper that says whether it is 1
+--   told_of is_steady is_old db == what the database holds, over a store that is clean and open at all times, where the database is a
+--     store of the keeper's version
+use Rattle.std.specs.Prelude.{ℕ, Bool, true, false, not, ◌&&◌, ◌==◌, List, [], ◌∷◌, map, Option, Some, None, if◌then◌else◌}
 use Rattle.std.specs.List.{list_all}
 use Rattle.std.specs.Ordering.{is_lt, eq_by_cmp}
 use base.Stored.{Gv, gnil, gnum, gcons}
@@ -22,7 +25,7 @@ use Rattle.sqlite_schema.specs.contracts.schema.Schema.{the_row}
 use Rattle.result_keeper.specs.ProjectName.{is_project_name}
 use Rattle.result_keeper.specs.Kept.{bytes_cmp, row_cmp, Kept}
 use Rattle.sqlite_keeper.specs.Schema.{store_schema}
-use Rattle.sqlite_keeper.specs.Tables.{project_rows, result_rows, project_entry, result_entry, projects_in, results_in}
+use Rattle.sqlite_keeper.specs.Tables.{project_rows, result_rows, version_in, opened_version, project_entry, result_entry, projects_in, results_in}
 
 abbrev pub same_code : Gv → Gv → Bool
 same_code gnil gnil = true
@@ -76,7 +79,13 @@ is_store db =
     && ascends (λ a b. not (eq_by_cmp row_cmp a b)) (map (λ e. e.0) (map result_entry (result_rows db))))))))
 
 abbrev pub kept_in : Database → Kept
-kept_in db = record { version = 2; projects = projects_in db; rows = results_in db }
+kept_in db = record { version = version_in db; projects = projects_in db; rows = results_in db }
+
+abbrev pub opened : Database → Kept
+opened db = record { version = opened_version db; projects = projects_in db; rows = results_in db }
+
+abbrev pub version_of : Bool → ℕ
+version_of is_old = if is_old then 1 else 2
 
 abbrev pub told_of : Bool → Bool → Database → Option Kept
-told_of is_steady is_old db = if is_steady && (not is_old && is_store db) then Some (kept_in db) else None
+told_of is_steady is_old db = if is_steady && (version_in db == version_of is_old && is_store db) then Some (kept_in db) else None

@@ -8,9 +8,8 @@ ghost use Rattle.sqlite.specs.Held.{state};
 ghost use Rattle.sqlite.specs.Order.{column, bytes};
 ghost use Rattle.sqlite.specs.declared.types.Value.TheVariants.{Int};
 ghost use Rattle.result_keeper.specs.Entries.{file_bytes};
-ghost use Rattle.result_keeper.specs.ProjectName.{is_project_name};
 ghost use Rattle.result_keeper.specs.Kept.{names_in, most_projects, put_answer, put_file};
-ghost use Rattle.sqlite_keeper.specs.Tables.{IsStore, projects_in, results_in, shown_name};
+ghost use Rattle.sqlite_keeper.specs.Tables.{IsStore, version_in, projects_in, results_in, shown_name};
 ghost use Rattle.sqlite_keeper.specs.Changes.{HasTables, IsStill, RunsWithin};
 
 use crate::autocommit::{execute, query};
@@ -65,7 +64,7 @@ pub fn find_file<S: Alter>(
     first_blob(&rows)
 }
 
-fn has_row(rows: &[Row]) -> bool
+pub fn has_row(rows: &[Row]) -> bool
     ensures { result ≡ is_some (slice_get rows.now 0) }
 {
     rows.first().is_some()
@@ -146,17 +145,10 @@ fn put_of<S: Alter>(tx: &mut Transaction<'_, S>, name: &ProjectName) -> Result<P
 fn delete_file<S: Alter>(tx: &mut Transaction<'_, S>, name: &ProjectName) -> Result<usize, Error>
     ensures same_reference { tx.new.conn.ghost_name ≡ tx.old.conn.ghost_name }
     ensures removed { HasCleanDisk (state S.Store tx.new.conn.now) → IsTrue (state S.Store tx.old.conn.now).in_transaction → IsStore (state S.Store tx.old.conn.now).now
-        → OnOk result (HasTables (remove (projects_in (state S.Store tx.old.conn.now).now) name.now) (results_in (state S.Store tx.old.conn.now).now) (state S.Store tx.new.conn.now).now) }
+        → OnOk result (HasTables (version_in (state S.Store tx.old.conn.now).now) (remove (projects_in (state S.Store tx.old.conn.now).now) name.now) (results_in (state S.Store tx.old.conn.now).now) (state S.Store tx.new.conn.now).now) }
     ensures within { RunsWithin (state S.Store tx.old.conn.now) (state S.Store tx.new.conn.now) result }
 {
     tx.execute(DELETE_PROJECT, &[ValueRef::Text(name.bytes())])
-}
-
-// Whether the text is the name of a project, as that of every `ProjectName` is.
-fn is_name(text: &[u8]) -> bool
-    ensures { result ≡ is_project_name text.now }
-{
-    ProjectName::new(text).is_some()
 }
 
 fn insert_file<S: Alter>(
@@ -167,12 +159,9 @@ fn insert_file<S: Alter>(
     ensures same_reference { tx.new.conn.ghost_name ≡ tx.old.conn.ghost_name }
     ensures added { HasCleanDisk (state S.Store tx.new.conn.now) → IsTrue (state S.Store tx.old.conn.now).in_transaction → IsStore (state S.Store tx.old.conn.now).now
         → contains_key (projects_in (state S.Store tx.old.conn.now).now) name.now ≡ false
-        → OnOk result (HasTables (insert (projects_in (state S.Store tx.old.conn.now).now) name.now file.now) (results_in (state S.Store tx.old.conn.now).now) (state S.Store tx.new.conn.now).now) }
+        → OnOk result (HasTables (version_in (state S.Store tx.old.conn.now).now) (insert (projects_in (state S.Store tx.old.conn.now).now) name.now file.now) (results_in (state S.Store tx.old.conn.now).now) (state S.Store tx.new.conn.now).now) }
     ensures within { RunsWithin (state S.Store tx.old.conn.now) (state S.Store tx.new.conn.now) result }
 {
-    if !is_name(name.bytes()) {
-        return Err(Error::InvalidQuery);
-    }
     tx.execute(
         INSERT_PROJECT,
         &[ValueRef::Text(name.bytes()), ValueRef::Blob(file)],
@@ -187,7 +176,7 @@ fn replace_file<S: Alter>(
 ) -> Result<usize, Error>
     ensures same_reference { tx.new.conn.ghost_name ≡ tx.old.conn.ghost_name }
     ensures put { HasCleanDisk (state S.Store tx.new.conn.now) → IsTrue (state S.Store tx.old.conn.now).in_transaction → IsStore (state S.Store tx.old.conn.now).now
-        → OnOk result (HasTables (insert (projects_in (state S.Store tx.old.conn.now).now) name.now file.now) (results_in (state S.Store tx.old.conn.now).now) (state S.Store tx.new.conn.now).now) }
+        → OnOk result (HasTables (version_in (state S.Store tx.old.conn.now).now) (insert (projects_in (state S.Store tx.old.conn.now).now) name.now file.now) (results_in (state S.Store tx.old.conn.now).now) (state S.Store tx.new.conn.now).now) }
     ensures within { RunsWithin (state S.Store tx.old.conn.now) (state S.Store tx.new.conn.now) result }
 {
     delete_file(tx, name)?;
@@ -203,7 +192,7 @@ fn put_within<S: Alter>(
     ensures answer { HasCleanDisk (state S.Store tx.new.conn.now) → IsStore (state S.Store tx.old.conn.now).now
         → IfOk result (λ put. put ≡ put_answer (projects_in (state S.Store tx.old.conn.now).now) name.now) }
     ensures put { HasCleanDisk (state S.Store tx.new.conn.now) → IsTrue (state S.Store tx.old.conn.now).in_transaction → IsStore (state S.Store tx.old.conn.now).now
-        → IfOk result (λ put. HasTables (put_file put name.now file.now (projects_in (state S.Store tx.old.conn.now).now)) (results_in (state S.Store tx.old.conn.now).now) (state S.Store tx.new.conn.now).now) }
+        → IfOk result (λ put. HasTables (version_in (state S.Store tx.old.conn.now).now) (put_file put name.now file.now (projects_in (state S.Store tx.old.conn.now).now)) (results_in (state S.Store tx.old.conn.now).now) (state S.Store tx.new.conn.now).now) }
     ensures within { IsStore (state S.Store tx.old.conn.now).now → RunsWithin (state S.Store tx.old.conn.now) (state S.Store tx.new.conn.now) result }
 {
     let put = put_of(tx, name)?;
@@ -223,7 +212,7 @@ pub fn keep_file<S: Alter>(
     ensures answer { HasCleanDisk (state S.Store conn.new) → IsStore (state S.Store conn.old).now
         → IfOk result (λ put. put ≡ put_answer (projects_in (state S.Store conn.old).now) name.now) }
     ensures put { HasCleanDisk (state S.Store conn.new) → IsStore (state S.Store conn.old).now
-        → IfOk result (λ put. HasTables (put_file put name.now file.now (projects_in (state S.Store conn.old).now)) (results_in (state S.Store conn.old).now) (state S.Store conn.new).now) }
+        → IfOk result (λ put. HasTables (version_in (state S.Store conn.old).now) (put_file put name.now file.now (projects_in (state S.Store conn.old).now)) (results_in (state S.Store conn.old).now) (state S.Store conn.new).now) }
     ensures err { HasCleanDisk (state S.Store conn.new) → IsTrue (state S.Store conn.new).is_open → IsStore (state S.Store conn.old).now
         → OnErr result ((state S.Store conn.new).now ≡ (state S.Store conn.old).now) }
 {
@@ -241,7 +230,7 @@ pub fn remove_file<S: Alter>(conn: &mut Connection<S>, name: &ProjectName) -> Re
     ensures kept { HasCleanDisk (state S.Store conn.new) → IsStore (state S.Store conn.old).now
         → IfOk result (λ kept. kept ≡ contains_key (projects_in (state S.Store conn.old).now) name.now) }
     ensures removed { HasCleanDisk (state S.Store conn.new) → IsStore (state S.Store conn.old).now
-        → OnOk result (HasTables (remove (projects_in (state S.Store conn.old).now) name.now) (results_in (state S.Store conn.old).now) (state S.Store conn.new).now) }
+        → OnOk result (HasTables (version_in (state S.Store conn.old).now) (remove (projects_in (state S.Store conn.old).now) name.now) (results_in (state S.Store conn.old).now) (state S.Store conn.new).now) }
     ensures err { HasCleanDisk (state S.Store conn.new) → IsTrue (state S.Store conn.new).is_open
         → OnErr result ((state S.Store conn.new).now ≡ (state S.Store conn.old).now) }
 {

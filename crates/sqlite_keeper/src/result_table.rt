@@ -5,7 +5,7 @@ ghost use Rattle.sqlite.specs.State.{HasCleanDisk};
 ghost use Rattle.sqlite.specs.Held.{state};
 ghost use Rattle.result_keeper.specs.Entries.{pair_of};
 ghost use Rattle.result_keeper.specs.Kept.{contexts_in, within, put_rows};
-ghost use Rattle.sqlite_keeper.specs.Tables.{IsStore, projects_in, results_in, shown_text, shown_pair};
+ghost use Rattle.sqlite_keeper.specs.Tables.{IsStore, version_in, projects_in, results_in, shown_text, shown_pair};
 ghost use Rattle.sqlite_keeper.specs.Changes.{HasTables, IsStill, RunsWithin};
 
 use crate::autocommit::query;
@@ -112,7 +112,7 @@ fn delete_row<S: Alter>(
 ) -> Result<usize, Error>
     ensures same_reference { tx.new.conn.ghost_name ≡ tx.old.conn.ghost_name }
     ensures removed { HasCleanDisk (state S.Store tx.new.conn.now) → IsTrue (state S.Store tx.old.conn.now).in_transaction → IsStore (state S.Store tx.old.conn.now).now
-        → OnOk result (HasTables (projects_in (state S.Store tx.old.conn.now).now) (remove (results_in (state S.Store tx.old.conn.now).now) (context.now, tree.now)) (state S.Store tx.new.conn.now).now) }
+        → OnOk result (HasTables (version_in (state S.Store tx.old.conn.now).now) (projects_in (state S.Store tx.old.conn.now).now) (remove (results_in (state S.Store tx.old.conn.now).now) (context.now, tree.now)) (state S.Store tx.new.conn.now).now) }
     ensures within { RunsWithin (state S.Store tx.old.conn.now) (state S.Store tx.new.conn.now) result }
 {
     tx.execute(
@@ -130,7 +130,7 @@ fn insert_row<S: Alter>(
     ensures same_reference { tx.new.conn.ghost_name ≡ tx.old.conn.ghost_name }
     ensures added { HasCleanDisk (state S.Store tx.new.conn.now) → IsTrue (state S.Store tx.old.conn.now).in_transaction → IsStore (state S.Store tx.old.conn.now).now
         → contains_key (results_in (state S.Store tx.old.conn.now).now) (context.now, tree.now) ≡ false
-        → OnOk result (HasTables (projects_in (state S.Store tx.old.conn.now).now) (insert (results_in (state S.Store tx.old.conn.now).now) (context.now, tree.now) value.now) (state S.Store tx.new.conn.now).now) }
+        → OnOk result (HasTables (version_in (state S.Store tx.old.conn.now).now) (projects_in (state S.Store tx.old.conn.now).now) (insert (results_in (state S.Store tx.old.conn.now).now) (context.now, tree.now) value.now) (state S.Store tx.new.conn.now).now) }
     ensures within { RunsWithin (state S.Store tx.old.conn.now) (state S.Store tx.new.conn.now) result }
 {
     tx.execute(
@@ -152,7 +152,7 @@ fn replace_row<S: Alter>(
 ) -> Result<usize, Error>
     ensures same_reference { tx.new.conn.ghost_name ≡ tx.old.conn.ghost_name }
     ensures put { HasCleanDisk (state S.Store tx.new.conn.now) → IsTrue (state S.Store tx.old.conn.now).in_transaction → IsStore (state S.Store tx.old.conn.now).now
-        → OnOk result (HasTables (projects_in (state S.Store tx.old.conn.now).now) (insert (results_in (state S.Store tx.old.conn.now).now) (context.now, tree.now) value.now) (state S.Store tx.new.conn.now).now) }
+        → OnOk result (HasTables (version_in (state S.Store tx.old.conn.now).now) (projects_in (state S.Store tx.old.conn.now).now) (insert (results_in (state S.Store tx.old.conn.now).now) (context.now, tree.now) value.now) (state S.Store tx.new.conn.now).now) }
     ensures within { RunsWithin (state S.Store tx.old.conn.now) (state S.Store tx.new.conn.now) result }
 {
     delete_row(tx, context, tree)?;
@@ -166,7 +166,7 @@ fn put_each<S: Alter>(
 ) -> Result<(), Error>
     ensures same_reference { tx.new.conn.ghost_name ≡ tx.old.conn.ghost_name }
     ensures put { HasCleanDisk (state S.Store tx.new.conn.now) → IsTrue (state S.Store tx.old.conn.now).in_transaction → IsStore (state S.Store tx.old.conn.now).now
-        → OnOk result (HasTables (projects_in (state S.Store tx.old.conn.now).now) (put_rows context.now (map pair_of rows.now) (results_in (state S.Store tx.old.conn.now).now)) (state S.Store tx.new.conn.now).now) }
+        → OnOk result (HasTables (version_in (state S.Store tx.old.conn.now).now) (projects_in (state S.Store tx.old.conn.now).now) (put_rows context.now (map pair_of rows.now) (results_in (state S.Store tx.old.conn.now).now)) (state S.Store tx.new.conn.now).now) }
     ensures within { RunsWithin (state S.Store tx.old.conn.now) (state S.Store tx.new.conn.now) result }
 {
     for row in rows {
@@ -182,7 +182,7 @@ pub fn keep_rows<S: Alter>(
     rows: &[StoredRow],
 ) -> Result<(), Error>
     ensures put { HasCleanDisk (state S.Store conn.new) → IsStore (state S.Store conn.old).now
-        → OnOk result (HasTables (projects_in (state S.Store conn.old).now) (put_rows context.now (map pair_of rows.now) (results_in (state S.Store conn.old).now)) (state S.Store conn.new).now) }
+        → OnOk result (HasTables (version_in (state S.Store conn.old).now) (projects_in (state S.Store conn.old).now) (put_rows context.now (map pair_of rows.now) (results_in (state S.Store conn.old).now)) (state S.Store conn.new).now) }
     ensures err { HasCleanDisk (state S.Store conn.new) → IsTrue (state S.Store conn.new).is_open
         → OnErr result ((state S.Store conn.new).now ≡ (state S.Store conn.old).now) }
 {

@@ -1,0 +1,1 @@
+use Rattle.sqlite_keeper.proofs.keeper.prepare.Goals as goal
