@@ -31,6 +31,7 @@ use Rattle.sqlite.specs.State.{State, mode_of, Executes, ExecutesInside}
 use Rattle.sqlite.specs.Listing.{understood}
 use Rattle.sqlite.proofs.Callers.{statement_of, runs_as}
 use Rattle.sqlite_rules.specs.Calls.{ids_of}
+use Rattle.sqlite_schema.specs.declared.program.Program.{Program}
 use Rattle.sqlite_trees.proofs.TreeLemmas.{all-put_row, IsTable-put_row}
 use Rattle.result_keeper.specs.Kept.{Kept, bytes_cmp, row_cmp, moved, moved_rows, CanMigrate}
 use Rattle.result_keeper.specs.Entries.{AreApart, context_pair}
@@ -134,7 +135,7 @@ changed_permutes p f (r ∷ rows) =
 moved_entry : (old new : List ℕ) (r : Row) → IsResultRow r → result_entry (changed (is_within old) (with_context new) r) ≡ moved ((old, new) ∷ []) (result_entry r)
 moved_entry old new r is =
     ap (λ b. result_entry (cond b (with_context new r) r)) (within_entry old r is)
-    ∙ (elim (bytes_eq (result_entry r).0.0 old) as (λ b. result_entry (cond b (with_context new r) r) ≡ ((unwrap_or (option_map (λ p. p.1) (cond b (Some (old, new)) None)) (result_entry r).0.0, (result_entry r).0.1), (result_entry r).1)) [
+    ∙ (elim (bytes_eq (result_entry r).0.0 old) as (λ b. result_entry (cond b (with_context new r) r) ≡ ((unwrap_or (option_map (λ (p : List ℕ × List ℕ). p.1) (cond b (Some (old, new)) None)) (result_entry r).0.0, (result_entry r).0.1), (result_entry r).1)) [
       | true ↦ refl
       | false ↦ refl
     ])
@@ -184,7 +185,7 @@ moves_context old new context next count is h =
     let params = Blob context ∷ Blob next ∷ [] in
     let db = old.now.trees in
     let rows = result_rows old.now in
-    let query = record { lets = []; body = move_results_query } in
+    let query : Program = record { lets = []; body = move_results_query } in
     let command = Update 1 query in
     let w = runs_as move_results_text params old new store_schema is.schema command move_results_is.command move_results_is.plain count h in
     let text = statement_of move_results_text (understood store_schema move_results_text) in
@@ -256,7 +257,7 @@ moved_more ps more i d first mid new l can is a b =
       projects = b.projects ∙ a.projects;
       store = b.store ∙ a.store;
       entries = subst (λ l. IsPermutation l (map result_entry (result_rows new))) (all_moved (take i ps) p es (apart_at ps (kept_in first) i d l can) ∙ ap (λ qs. map (moved qs) es) (sym is))
-      (IsPermutation-trans (map (moved (p ∷ [])) (map (moved (take i ps)) es)) (map (moved (p ∷ [])) es2) (map result_entry (result_rows new)) (IsPermutation-map (moved (p ∷ [])) (map (moved (take i ps)) es) es2 a.entries) b.entries);
+          (IsPermutation-trans (map (moved (p ∷ [])) (map (moved (take i ps)) es)) (map (moved (p ∷ [])) es2) (map result_entry (result_rows new)) (IsPermutation-map (moved (p ∷ [])) (map (moved (take i ps)) es) es2 a.entries) b.entries);
     }
 
 pub moved_next : (pairs : List ContextPair) (at : ℕ) (pair : ContextPair) (first mid new : Database) → at < length pairs → pair ≡ get_or pairs at pair → CanMigrate (map context_pair pairs) (kept_in first)

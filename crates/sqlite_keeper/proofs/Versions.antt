@@ -45,7 +45,7 @@ version_of_rows old new rows is h =
     let kept : a.kept ≡ map (output version_query) all = a.distinct ∙ ap (map (output version_query)) a.grouped in
     let shown : length rows ≡ length a.ordered = ap length a.shown ∙ length-map a.ordered (λ (o : Output). o.1) in
     let width : length rows ≡ length stored =
-    shown ∙ sym (length_permutation a.kept a.ordered a.same) ∙ ap length kept ∙ length-map all (output version_query) ∙ all_matches stored in
+    shown ∙ length_permutation a.kept a.ordered a.same ∙ ap length kept ∙ length-map all (output version_query) ∙ all_matches stored in
     same_width rows stored width
 
 not_four : ◌≢◌ {A = ℕ} 0 4

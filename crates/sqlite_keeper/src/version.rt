@@ -106,7 +106,10 @@ fn put_version_within<S: Alter>(tx: &mut Transaction<'_, S>) -> Result<usize, Er
     tx.execute(INSERT_VERSION, &[])
 }
 
-fn migrate_within<S: Alter>(tx: &mut Transaction<'_, S>, pairs: &[ContextPair]) -> Result<usize, Error>
+fn migrate_within<S: Alter>(
+    tx: &mut Transaction<'_, S>,
+    pairs: &[ContextPair],
+) -> Result<usize, Error>
     ensures same_reference { tx.new.conn.ghost_name ≡ tx.old.conn.ghost_name }
     ensures migrated { HasCleanDisk (state S.Store tx.new.conn.now) → IsTrue (state S.Store tx.old.conn.now).in_transaction → IsStore (state S.Store tx.old.conn.now).now
         → CanMigrate (map context_pair pairs.now) (kept_in (state S.Store tx.old.conn.now).now)

@@ -4,7 +4,7 @@ use Rattle.sqlite.specs.Held.{state}
 use Rattle.result_keeper.specs.Entries.{context_pair}
 use Rattle.sqlite_keeper.specs.Changes.{HasMoved}
 use Rattle.sqlite_keeper.proofs.Within.{within_here, within_then, within_ok, within_fails}
-use Rattle.sqlite_keeper.proofs.Moving.{none_moved, moved_tables}
+use Rattle.sqlite_keeper.proofs.Moving.{none_moved, moved_next, moved_tables}
 use Rattle.sqlite_keeper.proofs.version.move_each.Goals as goal
 
 pub loop-pair-init : goal.loop-pair-init

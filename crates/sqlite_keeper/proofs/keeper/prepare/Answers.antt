@@ -1,1 +1,0 @@
-use Rattle.sqlite_keeper.proofs.keeper.prepare.Goals as goal

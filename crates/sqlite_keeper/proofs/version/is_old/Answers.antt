@@ -1,1 +1,0 @@
-use Rattle.sqlite_keeper.proofs.version.is_old.Goals as goal
