@@ -193,9 +193,6 @@ told_if steady old db P f =
 pub told_answer : (steady old : Bool) (db : Database) (P : Kept → Type 0) → (steady ≡ true → IsStore db → P (kept_in db)) → IfSome (told_of steady old db) P
 told_answer steady old db P f = told_if steady old db P (λ s v is. f s is)
 
-pub told_version : (steady old : Bool) (db : Database) (v : ℕ) → v ≡ version_of old → IfSome (told_of steady old db) (λ k. v ≡ k.version)
-told_version steady old db v h = told_if steady old db (λ k. v ≡ k.version) (λ s same is. h ∙ sym same)
-
 -- what is told before a call, and what after it
 pub told_turns : (steady old young : Bool) (a b : Database) (f : Kept → Kept) → (steady ≡ true → version_in a ≡ version_of old → IsStore a → IsStore b × (kept_in b ≡ f (kept_in a)) × (version_in b ≡ version_of young))
     → Becomes f (told_of steady old a) (told_of steady young b)

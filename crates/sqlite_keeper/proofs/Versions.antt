@@ -1,8 +1,7 @@
 -- What the version of a store answers, and what putting it leaves.
-use Rattle.std.proofs.Common.{◌≡◌, ◌≢◌, ℕ, nat_lt, List, [], ◌∷◌, length, map, is_some, slice_get, Bool, true, false, if◌then◌else◌, None, Ok, Err, Result, OnOk, refl, sym, ap, subst, ◌∙◌, arith, Ordering, Less, Equal, Greater}
+use Rattle.std.proofs.Common.{◌≡◌, ◌≢◌, ℕ, List, [], ◌∷◌, length, map, is_some, slice_get, if◌then◌else◌, None, Ok, Err, Result, OnOk, refl, ap, subst, ◌∙◌, arith, Ordering, Less, Equal, Greater}
 use Rattle.std.specs.List.{flat_map}
 use Rattle.std.specs.Ordering.{match_ordering}
-use Rattle.std.specs.FinMap.{empty, from_entries}
 use Rattle.std.proofs.lemmas.List.{length-map}
 use Rattle.std.proofs.lemmas.List.Sorted.{length_permutation}
 use Rattle.sqlite.specs.declared.error.Error.{Error}
@@ -22,9 +21,8 @@ use Rattle.sqlite.specs.Listing.{understood}
 use Rattle.sqlite.proofs.Callers.{statement_of, runs_as}
 use Rattle.result_keeper.specs.Kept.{Projects, Rows}
 use Rattle.sqlite_keeper.specs.Schema.{store_schema}
-use Rattle.sqlite_keeper.specs.Tables.{result_rows, store_rows, version_told, version_in, opened_version, project_entry, result_entry, projects_in, results_in, IsStore}
-use Rattle.sqlite_keeper.specs.Told.{version_of}
-use Rattle.sqlite_keeper.specs.Changes.{HasTables, IsEmptyStore, Opens}
+use Rattle.sqlite_keeper.specs.Tables.{store_rows, version_told, version_in, projects_in, results_in, IsStore}
+use Rattle.sqlite_keeper.specs.Changes.{HasTables}
 use Rattle.sqlite_keeper.proofs.Statements.{answer_of, numbered_store, version_text, version_query, version_is, insert_version_text, version_terms, insert_version_is}
 use Rattle.sqlite_keeper.proofs.Counting.{all_matches}
 use Rattle.sqlite_keeper.proofs.Writing.{adds}
@@ -84,38 +82,3 @@ then_version (Err e) v m rows mid new t f = tt
 then_version (Ok n) v m rows mid new t f =
     let it = f t.is in
     record { is = it.is; version = it.version; projects = it.projects ∙ t.projects; rows = it.rows ∙ t.rows }
-
--- ---- what a keeper makes of a store
-
-opened_young : (db : Database) → version_in db ≡ 2 → opened_version db ≡ 2
-opened_young db h = (elim (nat_lt 0 (length (result_rows db))) as (λ b. (if b then version_in db else 2) ≡ 2) [ true ↦ h | false ↦ refl ])
-
--- a store that has a version, and one that has none but has results
-pub opens_young : (old new : Database) → IsStore old → new ≡ old → version_in old ≡ 2 → Opens false old new
-opens_young old new is same h =
-    let young = opened_young old h in
-    record { tables = subst (HasTables (opened_version old) (projects_in old) (results_in old)) (sym same) (record { is = is; version = h ∙ sym young; projects = refl; rows = refl }); version = young }
-
-pub opens_old : (old new : Database) → IsStore old → new ≡ old → version_in old ≡ 1 → nat_lt 0 (length (result_rows old)) ≡ true → Opens true old new
-opens_old old new is same h some =
-    let now : opened_version old ≡ version_in old = ap (λ b. if b then version_in old else 2) some in
-    record { tables = subst (HasTables (opened_version old) (projects_in old) (results_in old)) (sym same) (record { is = is; version = sym now; projects = refl; rows = refl }); version = now ∙ h }
-
--- one that has neither gets the version
-pub opens_empty : (old new : Database) → nat_lt 0 (length (result_rows old)) ≡ false → HasTables 2 (projects_in old) (results_in old) new → Opens false old new
-opens_empty old new none t =
-    let now : opened_version old ≡ 2 = ap (λ b. if b then version_in old else 2) none in
-    record { tables = record { is = t.is; version = t.version ∙ sym now; projects = t.projects; rows = t.rows }; version = now }
-
--- an empty database becomes tables of version 2
-pub opens_new : (is_old : Bool) (old new : Database) → IsEmptyStore old → Opens is_old old new → (2 ≡ version_of is_old) × HasTables 2 empty empty new
-opens_new is_old old new none o =
-    let two : opened_version old ≡ 2 = ap (λ (rows : List Row). if nat_lt 0 (length rows) then version_in old else 2) none.results in (
-      sym two ∙ o.version,
-      record {
-        is = o.tables.is;
-        version = o.tables.version ∙ two;
-        projects = o.tables.projects ∙ ap (λ l. from_entries (map project_entry l)) none.projects;
-        rows = o.tables.rows ∙ ap (λ l. from_entries (map result_entry l)) none.results;
-      },
-    )
