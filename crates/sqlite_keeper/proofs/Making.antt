@@ -18,8 +18,9 @@ use Rattle.sqlite_tied.specs.Compute.{everything}
 use Rattle.result_keeper.specs.Kept.{bytes_cmp, row_cmp}
 use Rattle.result_keeper.specs.Entries.{AreApart}
 use Rattle.sqlite_keeper.specs.Schema.{no_schema, project_table, result_table, store_table, store_schema}
-use Rattle.sqlite_keeper.specs.Tables.{project_rows, result_rows, version_in, project_entry, result_entry, projects_in, results_in, IsProjectRow, IsResultRow, IsStore}
-use Rattle.sqlite_keeper.specs.Changes.{HasTables, IsEmptyStore}
+use Rattle.sqlite_keeper.specs.Tables.{project_rows, result_rows, version_in, project_entry, result_entry, IsProjectRow, IsResultRow, IsStore}
+use Rattle.sqlite_keeper.specs.Told.{kept_in}
+use Rattle.sqlite_keeper.specs.Changes.{HasTables, IsEmptyStore, in_version_2}
 use Rattle.sqlite_keeper.proofs.Undone.{went, same_value}
 
 abbrev pub project_text : List ℕ
@@ -116,9 +117,9 @@ made_empty a b c d p r s =
       results = results;
     }
 
--- what has the same projects and results is a store with the same tables
-pub same_tables : (a b : Database) (v : ℕ) → IsStore a → b.schema ≡ store_schema → project_rows b ≡ project_rows a → result_rows b ≡ result_rows a → version_in b ≡ v → HasTables v (projects_in a) (results_in a) b
-same_tables a b v is schema projects results version = record {
+-- what has the same projects and results, and a version, is such a store of version 2
+pub same_tables : (a b : Database) → IsStore a → b.schema ≡ store_schema → project_rows b ≡ project_rows a → result_rows b ≡ result_rows a → version_in b ≡ 2 → HasTables (in_version_2 (kept_in a)) b
+same_tables a b is schema projects results version = record {
   is = record {
     schema = schema;
     projects = subst (All IsProjectRow) (sym projects) is.projects;

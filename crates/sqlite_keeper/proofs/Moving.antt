@@ -33,16 +33,16 @@ use Rattle.sqlite.proofs.Callers.{statement_of, runs_as}
 use Rattle.sqlite_rules.specs.Calls.{ids_of}
 use Rattle.sqlite_schema.specs.declared.program.Program.{Program}
 use Rattle.sqlite_trees.proofs.TreeLemmas.{all-put_row, IsTable-put_row}
-use Rattle.result_keeper.specs.Kept.{Kept, bytes_cmp, row_cmp, moved, moved_rows, CanMigrate}
+use Rattle.result_keeper.specs.Kept.{Kept, bytes_cmp, row_cmp, moved, CanMigrate}
 use Rattle.result_keeper.specs.Entries.{AreApart, context_pair}
 use Rattle.result_keeper.specs.declared.ContextPair.{ContextPair}
 use Rattle.result_keeper.proofs.Orders.{bytes_total, bytes_exact, row_total, row_exact}
 use Rattle.result_keeper.proofs.Maps.{same_in_any_order}
 use Rattle.result_keeper.proofs.Moves.{moves, moves_apart, moved_then}
 use Rattle.sqlite_keeper.specs.Schema.{store_schema}
-use Rattle.sqlite_keeper.specs.Tables.{result_rows, version_told, version_in, project_entry, result_entry, projects_in, results_in, IsProjectRow, IsResultRow, IsStore}
+use Rattle.sqlite_keeper.specs.Tables.{result_rows, version_told, project_entry, result_entry, IsProjectRow, IsResultRow, IsStore}
 use Rattle.sqlite_keeper.specs.Told.{kept_in}
-use Rattle.sqlite_keeper.specs.Changes.{HasTables, HasResults, HasMoved}
+use Rattle.sqlite_keeper.specs.Changes.{HasTables, HasResults, HasMoved, with_moved}
 use Rattle.sqlite_keeper.proofs.Statements.{numbered_result, move_results_text, move_results_query, by_parameter, move_results_is}
 use Rattle.sqlite_keeper.proofs.Queries.{blob_test}
 use Rattle.sqlite_keeper.proofs.ProjectRows.{weaken}
@@ -270,7 +270,7 @@ moved_next pairs at pair first mid new l is can a b =
     moved_more ps (take (at + 1) ps) at p first mid new low can (take_more ps at p low) a (subst (λ q. HasMoved (q ∷ []) mid new) same b)
 
 -- the store after all were moved
-pub moved_tables : (ps : Pairs) (old new : Database) → IsStore old → CanMigrate ps (kept_in old) → HasMoved ps old new → HasTables (version_in old) (projects_in old) (moved_rows ps (results_in old)) new
+pub moved_tables : (ps : Pairs) (old new : Database) → IsStore old → CanMigrate ps (kept_in old) → HasMoved ps old new → HasTables (with_moved ps (kept_in old)) new
 moved_tables ps old new is can m =
     let es = map result_entry (result_rows old) in
     let now = map result_entry (result_rows new) in

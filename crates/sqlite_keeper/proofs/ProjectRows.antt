@@ -30,13 +30,15 @@ use Rattle.sqlite.specs.Listing.{understood}
 use Rattle.sqlite.proofs.Callers.{statement_of, runs_as}
 use Rattle.sqlite_trees.proofs.TreeLemmas.{all-put_row, IsTable-put_row}
 use Rattle.result_keeper.specs.ProjectName.{is_project_name}
-use Rattle.result_keeper.specs.Kept.{bytes_cmp, row_cmp, Projects, Rows}
+use Rattle.result_keeper.specs.Kept.{Kept, bytes_cmp, row_cmp, without_project, after_put}
+use Rattle.result_keeper.specs.declared.Put.TheVariants.{Added, Replaced}
 use Rattle.result_keeper.specs.Entries.{AreApart}
 use Rattle.result_keeper.proofs.Orders.{bytes_total, bytes_exact}
 use Rattle.result_keeper.proofs.Maps.{same_in_any_order}
 use Rattle.result_keeper.proofs.PlaceLemmas as place
 use Rattle.sqlite_keeper.specs.Schema.{store_schema, project_table}
-use Rattle.sqlite_keeper.specs.Tables.{project_rows, result_rows, store_rows, version_told, version_in, project_entry, result_entry, projects_in, results_in, IsProjectRow, IsResultRow, IsStore}
+use Rattle.sqlite_keeper.specs.Tables.{project_rows, result_rows, store_rows, version_told, project_entry, result_entry, projects_in, IsProjectRow, IsResultRow, IsStore}
+use Rattle.sqlite_keeper.specs.Told.{kept_in}
 use Rattle.sqlite_keeper.specs.Changes.{HasTables}
 use Rattle.sqlite_keeper.proofs.Statements.{delete_project_text, delete_project_query, delete_project_is, insert_project_text, project_terms, insert_project_is}
 use Rattle.sqlite_keeper.proofs.Queries.{text_test}
@@ -97,7 +99,7 @@ removes_project old new name count is h =
     }
 
 -- the store after it is the one without the project
-pub removed_tables : (name : List ℕ) (old new : Database) (count : ℕ) → IsStore old → RemovesProject name old new count → HasTables (version_in old) (remove (projects_in old) name) (results_in old) new
+pub removed_tables : (name : List ℕ) (old new : Database) (count : ℕ) → IsStore old → RemovesProject name old new count → HasTables (without_project name (kept_in old)) new
 removed_tables name old new count is r =
     let rows = project_rows old in
     let good = recursion_from_All IsProjectRow rows is.projects in
@@ -173,7 +175,7 @@ is_none (Some v) h = absurd (let m : true ≡ false = h in cc)
 
 -- the store after it has the file under its name, which was new
 pub added_tables : (name file : List ℕ) (old new : Database) → is_project_name name ≡ true → IsStore old → contains_key (projects_in old) name ≡ false → AddsProject name file old new
-    → HasTables (version_in old) (insert (projects_in old) name file) (results_in old) new
+    → HasTables (after_put Added name file (kept_in old)) new
 unfolding IsDistinct
 added_tables name file old new fine is free a =
     let rows = project_rows old in
@@ -201,12 +203,12 @@ added_tables name file old new fine is free a =
     }
 
 pub delete_within : (old new : State) (name : List ℕ) (r : Result ℕ Error) → IsStore old.now → ExecutesInside 0 delete_project_text (Text name ∷ []) old new r
-    → OnOk r (HasTables (version_in old.now) (remove (projects_in old.now) name) (results_in old.now) new.now)
+    → OnOk r (HasTables (without_project name (kept_in old.now)) new.now)
 delete_within old new name (Err e) is h = tt
 delete_within old new name (Ok n) is h = removed_tables name old.now new.now n is (removes_project old new name n is h.0)
 
 pub insert_within : (old new : State) (name file : List ℕ) (r : Result ℕ Error) → is_project_name name ≡ true → IsStore old.now → contains_key (projects_in old.now) name ≡ false
-    → ExecutesInside 0 insert_project_text (Text name ∷ Blob file ∷ []) old new r → OnOk r (HasTables (version_in old.now) (insert (projects_in old.now) name file) (results_in old.now) new.now)
+    → ExecutesInside 0 insert_project_text (Text name ∷ Blob file ∷ []) old new r → OnOk r (HasTables (after_put Added name file (kept_in old.now)) new.now)
 insert_within old new name file (Err e) fine is free h = tt
 insert_within old new name file (Ok n) fine is free h = added_tables name file old.now new.now fine is free (adds_project old new name file n is h.0)
 
@@ -225,14 +227,14 @@ put_again R o exact m k v = same_map o exact (insert (remove m k) k v) (insert m
 pub removed_key : {K X : Type 0} (R : K → K → Ordering) → IsTotalOrder R → (m : FinMap R X) (k : K) → contains_key (remove m k) k ≡ false
 removed_key R o m k = ap is_some (get-remove o m k k) ∙ ap (λ b. is_some (cond b None (get m k))) ((eq_by_cmp_equiv o).refl k)
 
-pub replaced : (r : Result ℕ Error) (v : ℕ) (m : Projects) (rows : Rows) (mid new : Database) (name file : List ℕ) → HasTables v (remove m name) rows mid
-    → (IsStore mid → contains_key (projects_in mid) name ≡ false → OnOk r (HasTables (version_in mid) (insert (projects_in mid) name file) (results_in mid) new)) → OnOk r (HasTables v (insert m name file) rows new)
-replaced (Err e) v m rows mid new name file t h = tt
-replaced (Ok n) v m rows mid new name file t h =
-    let it = h t.is (ap (λ x. contains_key x name) t.projects ∙ removed_key bytes_cmp bytes_total m name) in
+pub replaced : (r : Result ℕ Error) (k : Kept) (mid new : Database) (name file : List ℕ) → HasTables (without_project name k) mid
+    → (IsStore mid → contains_key (projects_in mid) name ≡ false → OnOk r (HasTables (after_put Added name file (kept_in mid)) new)) → OnOk r (HasTables (after_put Replaced name file k) new)
+replaced (Err e) k mid new name file t h = tt
+replaced (Ok n) k mid new name file t h =
+    let it = h t.is (ap (λ x. contains_key x name) t.projects ∙ removed_key bytes_cmp bytes_total k.projects name) in
     record {
       is = it.is;
       version = it.version ∙ t.version;
-      projects = it.projects ∙ ap (λ x. insert x name file) t.projects ∙ put_again bytes_cmp bytes_total bytes_exact m name file;
+      projects = it.projects ∙ ap (λ x. insert x name file) t.projects ∙ put_again bytes_cmp bytes_total bytes_exact k.projects name file;
       rows = it.rows ∙ t.rows;
     }

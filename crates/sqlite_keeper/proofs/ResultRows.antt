@@ -4,7 +4,7 @@ use Rattle.std.specs.List.{IsDistinct, list_all, flat_map}
 use Rattle.std.specs.List.Sorted.{IsPermutation}
 use Rattle.std.specs.Ordering.{eq_by_cmp, is_eq, ordering_then}
 use Rattle.std.specs.Cmp.{eq_by_cmp_equiv}
-use Rattle.std.specs.FinMap.{find, from_entries, remove, insert, contains_key, get-from_entries}
+use Rattle.std.specs.FinMap.{find, from_entries, insert, contains_key, get-from_entries}
 use Rattle.std.proofs.lemmas.Bool.{cases_Bool}
 use Rattle.std.proofs.lemmas.List.{map_push}
 use Rattle.std.proofs.lemmas.List.Elements.{All-from_recursion, recursion_from_All}
@@ -30,15 +30,16 @@ use Rattle.sqlite.specs.State.{State, mode_of, Executes, ExecutesInside}
 use Rattle.sqlite.specs.Listing.{understood}
 use Rattle.sqlite.proofs.Callers.{statement_of, runs_as}
 use Rattle.sqlite_trees.proofs.TreeLemmas.{all-put_row, IsTable-put_row}
-use Rattle.result_keeper.specs.Kept.{bytes_cmp, row_cmp, Projects, Rows, put_rows}
+use Rattle.result_keeper.specs.Kept.{Kept, bytes_cmp, row_cmp, Rows, put_rows, with_rows}
 use Rattle.result_keeper.specs.Entries.{AreApart, pair_of}
 use Rattle.result_keeper.specs.declared.StoredRow.{StoredRow}
 use Rattle.result_keeper.proofs.Orders.{bytes_total, bytes_exact, row_total, row_exact}
 use Rattle.result_keeper.proofs.Maps.{same_in_any_order}
 use Rattle.result_keeper.proofs.PlaceLemmas as place
 use Rattle.sqlite_keeper.specs.Schema.{store_schema}
-use Rattle.sqlite_keeper.specs.Tables.{project_rows, result_rows, store_rows, version_told, version_in, project_entry, result_entry, projects_in, results_in, IsProjectRow, IsResultRow, IsStore}
-use Rattle.sqlite_keeper.specs.Changes.{HasTables}
+use Rattle.sqlite_keeper.specs.Tables.{project_rows, result_rows, store_rows, version_told, project_entry, result_entry, results_in, IsProjectRow, IsResultRow, IsStore}
+use Rattle.sqlite_keeper.specs.Told.{kept_in}
+use Rattle.sqlite_keeper.specs.Changes.{HasTables, without_row}
 use Rattle.sqlite_keeper.proofs.Statements.{numbered_result, delete_result_text, delete_result_query, by_two_parameters, delete_result_is, insert_result_text, result_terms, insert_result_is}
 use Rattle.sqlite_keeper.proofs.Queries.{blob_test}
 use Rattle.sqlite_keeper.proofs.Removing.{IsNumbered, taken_out, all_filter, ordered_filter, filter_alike, put_permutes}
@@ -112,7 +113,7 @@ removes_result old new c t count is h =
     }
 
 -- the store after it is the one without the row
-removed_tables : (c t : List ℕ) (old new : Database) → IsStore old → RemovesResult c t old new → HasTables (version_in old) (projects_in old) (remove (results_in old) (c, t)) new
+removed_tables : (c t : List ℕ) (old new : Database) → IsStore old → RemovesResult c t old new → HasTables (without_row c t (kept_in old)) new
 removed_tables c t old new is r =
     let rows = result_rows old in
     let good = recursion_from_All IsResultRow rows is.results in
@@ -163,7 +164,7 @@ adds_result old new c t v count is h =
     }
 
 -- the store after it has the row, whose key was new
-added_tables : (c t v : List ℕ) (old new : Database) → IsStore old → contains_key (results_in old) (c, t) ≡ false → AddsResult c t v old new → HasTables (version_in old) (projects_in old) (insert (results_in old) (c, t) v) new
+added_tables : (c t v : List ℕ) (old new : Database) → IsStore old → contains_key (results_in old) (c, t) ≡ false → AddsResult c t v old new → HasTables (with_rows c ((t, v) ∷ []) (kept_in old)) new
 unfolding IsDistinct
 added_tables c t v old new is free a =
     let rows = result_rows old in
@@ -191,25 +192,25 @@ added_tables c t v old new is free a =
     }
 
 pub delete_within : (old new : State) (c t : List ℕ) (r : Result ℕ Error) → IsStore old.now → ExecutesInside 0 delete_result_text (Blob c ∷ Blob t ∷ []) old new r
-    → OnOk r (HasTables (version_in old.now) (projects_in old.now) (remove (results_in old.now) (c, t)) new.now)
+    → OnOk r (HasTables (without_row c t (kept_in old.now)) new.now)
 delete_within old new c t (Err e) is h = tt
 delete_within old new c t (Ok n) is h = removed_tables c t old.now new.now is (removes_result old new c t n is h.0)
 
 pub insert_within : (old new : State) (c t v : List ℕ) (r : Result ℕ Error) → IsStore old.now → contains_key (results_in old.now) (c, t) ≡ false
-    → ExecutesInside 0 insert_result_text (Blob c ∷ Blob t ∷ Blob v ∷ []) old new r → OnOk r (HasTables (version_in old.now) (projects_in old.now) (insert (results_in old.now) (c, t) v) new.now)
+    → ExecutesInside 0 insert_result_text (Blob c ∷ Blob t ∷ Blob v ∷ []) old new r → OnOk r (HasTables (with_rows c ((t, v) ∷ []) (kept_in old.now)) new.now)
 insert_within old new c t v (Err e) is free h = tt
 insert_within old new c t v (Ok n) is free h = added_tables c t v old.now new.now is free (adds_result old new c t v n is h.0)
 
-pub replaced : (r : Result ℕ Error) (k : ℕ) (m : Projects) (rows : Rows) (mid new : Database) (c t v : List ℕ) → HasTables k m (remove rows (c, t)) mid
-    → (IsStore mid → contains_key (results_in mid) (c, t) ≡ false → OnOk r (HasTables (version_in mid) (projects_in mid) (insert (results_in mid) (c, t) v) new)) → OnOk r (HasTables k m (insert rows (c, t) v) new)
-replaced (Err e) k m rows mid new c t v h f = tt
-replaced (Ok n) k m rows mid new c t v h f =
-    let it = f h.is (ap (λ x. contains_key x (c, t)) h.rows ∙ removed_key row_cmp row_total rows (c, t)) in
+pub replaced : (r : Result ℕ Error) (k : Kept) (mid new : Database) (c t v : List ℕ) → HasTables (without_row c t k) mid
+    → (IsStore mid → contains_key (results_in mid) (c, t) ≡ false → OnOk r (HasTables (with_rows c ((t, v) ∷ []) (kept_in mid)) new)) → OnOk r (HasTables (with_rows c ((t, v) ∷ []) k) new)
+replaced (Err e) k mid new c t v h f = tt
+replaced (Ok n) k mid new c t v h f =
+    let it = f h.is (ap (λ x. contains_key x (c, t)) h.rows ∙ removed_key row_cmp row_total k.rows (c, t)) in
     record {
       is = it.is;
       version = it.version ∙ h.version;
       projects = it.projects ∙ h.projects;
-      rows = it.rows ∙ ap (λ x. insert x (c, t) v) h.rows ∙ put_again row_cmp row_total row_exact rows (c, t) v;
+      rows = it.rows ∙ ap (λ x. insert x (c, t) v) h.rows ∙ put_again row_cmp row_total row_exact k.rows (c, t) v;
     }
 
 put_pushed : (c : List ℕ) (given : List (List ℕ × List ℕ)) (x : List ℕ × List ℕ) (m : Rows) → put_rows c (given ++ x ∷ []) m ≡ insert (put_rows c given m) (c, x.0) x.1
@@ -217,8 +218,8 @@ put_pushed c [] x m = refl
 put_pushed c (y ∷ given) x m = put_pushed c given x (insert m (c, y.0) y.1)
 
 -- the rows that were put so far, and one more
-pub put_more : (first mid new : Database) (c : List ℕ) (rows more : List StoredRow) (row : StoredRow) → more ≡ rows ++ row ∷ [] → HasTables (version_in first) (projects_in first) (put_rows c (map pair_of rows) (results_in first)) mid
-    → HasTables (version_in mid) (projects_in mid) (insert (results_in mid) (c, row.tree.items) row.value.items) new → HasTables (version_in first) (projects_in first) (put_rows c (map pair_of more) (results_in first)) new
+pub put_more : (first mid new : Database) (c : List ℕ) (rows more : List StoredRow) (row : StoredRow) → more ≡ rows ++ row ∷ [] → HasTables (with_rows c (map pair_of rows) (kept_in first)) mid
+    → HasTables (with_rows c (pair_of row ∷ []) (kept_in mid)) new → HasTables (with_rows c (map pair_of more) (kept_in first)) new
 put_more first mid new c rows more row is before after = record {
   is = after.is;
   version = after.version ∙ before.version;

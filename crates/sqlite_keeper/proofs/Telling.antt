@@ -15,7 +15,7 @@ use Rattle.sqlite.specs.Schema.{Schema}
 use Rattle.sqlite.specs.Effect.{Database}
 use Rattle.sqlite_schema.specs.contracts.schema.Schema.{the_row}
 use Rattle.result_keeper.specs.ProjectName.{is_project_name}
-use Rattle.result_keeper.specs.Kept.{bytes_cmp, row_cmp, Kept, Projects, Rows}
+use Rattle.result_keeper.specs.Kept.{bytes_cmp, row_cmp, Kept}
 use Rattle.result_keeper.specs.Told.{Becomes, Stays}
 use Rattle.sqlite_keeper.specs.Schema.{store_schema}
 use Rattle.sqlite_keeper.specs.Tables.{project_rows, result_rows, version_in, project_entry, IsProjectRow, IsResultRow, IsStore}
@@ -216,8 +216,8 @@ told_stays steady old a b f = told_becomes steady old a b (λ k. k) (λ k. refl)
 pub told_holds : (steady old : Bool) (db : Database) (P : Kept → Type 0) → IfSome (told_of steady old db) P → steady ≡ true → version_in db ≡ version_of old → IsStore db → P (kept_in db)
 told_holds steady old db P h s v is = subst (λ o. IfSome o P) (tells steady old db s v is) h
 
-pub kept_is : (v : ℕ) (projects : Projects) (rows : Rows) (db : Database) → HasTables v projects rows db → kept_in db ≡ record { version = v; projects = projects; rows = rows }
-kept_is v projects rows db t = λ i. record { version = t.version i; projects = t.projects i; rows = t.rows i }
+pub kept_is : (k : Kept) (db : Database) → HasTables k db → kept_in db ≡ k
+kept_is k db t = λ i. record { version = t.version i; projects = t.projects i; rows = t.rows i }
 
-pub told_is : (steady old : Bool) (v : ℕ) (projects : Projects) (rows : Rows) (db : Database) → steady ≡ true → v ≡ version_of old → HasTables v projects rows db → told_of steady old db ≡ Some (record { version = v; projects = projects; rows = rows })
-told_is steady old v projects rows db s o t = tells steady old db s (t.version ∙ o) t.is ∙ ap (λ k. Some k) (kept_is v projects rows db t)
+pub told_is : (steady old : Bool) (k : Kept) (db : Database) → steady ≡ true → k.version ≡ version_of old → HasTables k db → told_of steady old db ≡ Some k
+told_is steady old k db s o t = tells steady old db s (t.version ∙ o) t.is ∙ ap (λ x. Some x) (kept_is k db t)

@@ -19,10 +19,11 @@ use Rattle.sqlite.specs.Does.{Does}
 use Rattle.sqlite.specs.State.{State, mode_of, Executes, ExecutesInside, Shown}
 use Rattle.sqlite.specs.Listing.{understood}
 use Rattle.sqlite.proofs.Callers.{statement_of, runs_as}
-use Rattle.result_keeper.specs.Kept.{Projects, Rows}
+use Rattle.result_keeper.specs.Kept.{Kept}
 use Rattle.sqlite_keeper.specs.Schema.{store_schema}
-use Rattle.sqlite_keeper.specs.Tables.{store_rows, version_told, version_in, projects_in, results_in, IsStore}
-use Rattle.sqlite_keeper.specs.Changes.{HasTables}
+use Rattle.sqlite_keeper.specs.Tables.{store_rows, version_told, version_in, IsStore}
+use Rattle.sqlite_keeper.specs.Told.{kept_in}
+use Rattle.sqlite_keeper.specs.Changes.{HasTables, in_version_2}
 use Rattle.sqlite_keeper.proofs.Statements.{answer_of, numbered_store, version_text, version_query, version_is, insert_version_text, version_terms, insert_version_is}
 use Rattle.sqlite_keeper.proofs.Counting.{all_matches}
 use Rattle.sqlite_keeper.proofs.Writing.{adds}
@@ -62,7 +63,7 @@ some_row new (r ∷ rows) =
     ]
 
 -- the version goes into a table of its own
-pub version_kept : (old new : State) (count : ℕ) → IsStore old.now → Executes insert_version_text [] old new (Ok count) → HasTables 2 (projects_in old.now) (results_in old.now) new.now
+pub version_kept : (old new : State) (count : ℕ) → IsStore old.now → Executes insert_version_text [] old new (Ok count) → HasTables (in_version_2 (kept_in old.now)) new.now
 version_kept old new count is h =
     let db = old.now.trees in
     let command = Insert 2 (Values version_terms 3) in
@@ -71,14 +72,14 @@ version_kept old new count is h =
     let done = subst (λ s. Does old.step_limit (mode_of old) [] (record old.now { schema = s }) text None command (Ok (w.tally, new.now))) is.schema w.changed in
     let it = adds old.step_limit (mode_of old).keys (mode_of old) [] numbered_store.name 4 numbered_store.columns numbered_store.key numbered_store.primary [] [] numbered_store.checks 2 (Values version_terms 3) db w.tally new.now done in
     let version : version_in new.now ≡ 2 = ap version_told (it.rows ∙ ap (λ g. put_all (db 4) (numbered Chosen (db 4) (map (cast_row numbered_store) g))) it.source.1) ∙ some_row _ (db 4) in
-    same_tables old.now new.now 2 is it.schema (it.others.0 not_four) (it.others.1.0 two_not_four) version
+    same_tables old.now new.now is it.schema (it.others.0 not_four) (it.others.1.0 two_not_four) version
 
-pub version_within : (old new : State) (r : Result ℕ Error) → IsStore old.now → ExecutesInside 0 insert_version_text [] old new r → OnOk r (HasTables 2 (projects_in old.now) (results_in old.now) new.now)
+pub version_within : (old new : State) (r : Result ℕ Error) → IsStore old.now → ExecutesInside 0 insert_version_text [] old new r → OnOk r (HasTables (in_version_2 (kept_in old.now)) new.now)
 version_within old new (Err e) is h = tt
 version_within old new (Ok n) is h = version_kept old new n is h.0
 
-pub then_version : (r : Result ℕ Error) (v : ℕ) (m : Projects) (rows : Rows) (mid new : Database) → HasTables v m rows mid → (IsStore mid → OnOk r (HasTables 2 (projects_in mid) (results_in mid) new)) → OnOk r (HasTables 2 m rows new)
-then_version (Err e) v m rows mid new t f = tt
-then_version (Ok n) v m rows mid new t f =
+pub then_version : (r : Result ℕ Error) (k : Kept) (mid new : Database) → HasTables k mid → (IsStore mid → OnOk r (HasTables (in_version_2 (kept_in mid)) new)) → OnOk r (HasTables (in_version_2 k) new)
+then_version (Err e) k mid new t f = tt
+then_version (Ok n) k mid new t f =
     let it = f t.is in
     record { is = it.is; version = it.version; projects = it.projects ∙ t.projects; rows = it.rows ∙ t.rows }

@@ -1,7 +1,6 @@
 -- What the rows of the database tell.
 --   project_rows db, result_rows db, store_rows db == the rows of the three tables; a row is its number, then its columns
 --   version_told rows, version_in db == the version that the rows of `store` tell: 1 exactly where there are none, else 2
---   opened_version db == the version once a keeper is made over the database: 2 also where there are no results
 --   project_entry r == the name and the file in a row of `project`
 --   result_entry r == the context and the tree in a row of `result`, and its value
 --   IsProjectRow r == the number of the row is an integer, its name is a text and the name of a project, its file is a blob
@@ -12,7 +11,7 @@
 --   projects_in db, results_in db == the finite maps that the rows make
 --   IsStore db == the database has the tables of the store, its rows are such rows in the order of their numbers, no name comes twice,
 --     and no pair of a context and a tree
-use Rattle.std.specs.Prelude.{◌≡◌, ℕ, nat_lt, true, List, [], ◌∷◌, length, map, All, Option, Some, None, if◌then◌else◌}
+use Rattle.std.specs.Prelude.{◌≡◌, ℕ, true, List, [], ◌∷◌, map, All, Option, Some, None, if◌then◌else◌}
 use Rattle.std.specs.FinMap.{from_entries}
 use Rattle.sqlite.specs.Order.{Row, column, bytes}
 use Rattle.sqlite.specs.declared.types.Value.{Value}
@@ -40,9 +39,6 @@ version_told (r ∷ rows) = 2
 
 abbrev pub version_in : Database → ℕ
 version_in db = version_told (store_rows db)
-
-abbrev pub opened_version : Database → ℕ
-opened_version db = if nat_lt 0 (length (result_rows db)) then version_in db else 2
 
 abbrev pub project_entry : Row → List ℕ × List ℕ
 project_entry r = (bytes (column r 1), bytes (column r 2))

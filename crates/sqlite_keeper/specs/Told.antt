@@ -6,11 +6,11 @@
 --   in_order rows == the numbers of the rows rise
 --   is_project_row r, is_result_row r, is_store db == tests for IsProjectRow, IsResultRow and IsStore
 --   kept_in db == what the database holds: its version, the projects and the rows of results
---   opened db == the same once a keeper is made over the database
+--   opened db == what a keeper makes of it: of version 2 also where there are no results
 --   version_of is_old == the version of a keeper that says whether it is 1
 --   told_of is_steady is_old db == what the database holds, over a store that is clean and open at all times, where the database is a
 --     store of the keeper's version
-use Rattle.std.specs.Prelude.{ℕ, Bool, true, false, not, ◌&&◌, ◌==◌, List, [], ◌∷◌, map, Option, Some, None, if◌then◌else◌}
+use Rattle.std.specs.Prelude.{ℕ, nat_lt, length, Bool, true, false, not, ◌&&◌, ◌==◌, List, [], ◌∷◌, map, Option, Some, None, if◌then◌else◌}
 use Rattle.std.specs.List.{list_all}
 use Rattle.std.specs.Ordering.{is_lt, eq_by_cmp}
 use base.Stored.{Gv, gnil, gnum, gcons}
@@ -25,7 +25,7 @@ use Rattle.sqlite_schema.specs.contracts.schema.Schema.{the_row}
 use Rattle.result_keeper.specs.ProjectName.{is_project_name}
 use Rattle.result_keeper.specs.Kept.{bytes_cmp, row_cmp, Kept}
 use Rattle.sqlite_keeper.specs.Schema.{store_schema}
-use Rattle.sqlite_keeper.specs.Tables.{project_rows, result_rows, version_in, opened_version, project_entry, result_entry, projects_in, results_in}
+use Rattle.sqlite_keeper.specs.Tables.{project_rows, result_rows, version_in, project_entry, result_entry, projects_in, results_in}
 
 abbrev pub same_code : Gv → Gv → Bool
 same_code gnil gnil = true
@@ -82,7 +82,7 @@ abbrev pub kept_in : Database → Kept
 kept_in db = record { version = version_in db; projects = projects_in db; rows = results_in db }
 
 abbrev pub opened : Database → Kept
-opened db = record { version = opened_version db; projects = projects_in db; rows = results_in db }
+opened db = record { version = if nat_lt 0 (length (result_rows db)) then version_in db else 2; projects = projects_in db; rows = results_in db }
 
 abbrev pub version_of : Bool → ℕ
 version_of is_old = if is_old then 1 else 2

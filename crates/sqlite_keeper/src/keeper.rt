@@ -29,7 +29,7 @@ pub struct SqliteKeeper<S: Alter> {
 // Makes the tables that are not there, and says whether the store is of version 1.
 fn prepare<S: Steady>(conn: &mut Connection<S>) -> Result<bool, Error>
     ensures made { S.is_steady ≡ true → (state S.Store conn.old).now.schema ≡ no_schema
-        → IfOk result (λ is_old. (2 ≡ version_of is_old) × HasTables 2 empty empty (state S.Store conn.new).now) }
+        → IfOk result (λ is_old. (version_of is_old ≡ 2) × HasTables nothing_kept (state S.Store conn.new).now) }
     ensures there { S.is_steady ≡ true → IsStore (state S.Store conn.old).now
         → IfOk result (λ is_old. Opens is_old (state S.Store conn.old).now (state S.Store conn.new).now) }
 {

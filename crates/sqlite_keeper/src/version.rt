@@ -1,12 +1,12 @@
 // The version of the store: 1 exactly where the table `store` is empty.
-ghost use Rattle.std.specs.Prelude.{◌≡◌, ℕ, true, pos, [], ◌∷◌, map, nat_lt, length, if◌then◌else◌, IfOk, OnOk, OnErr, IsTrue};
+ghost use Rattle.std.specs.Prelude.{◌≡◌, ℕ, true, pos, [], ◌∷◌, map, nat_lt, length, if◌then◌else◌, IfOk, OnOk, IsTrue};
 ghost use Rattle.sqlite.specs.State.{HasCleanDisk};
 ghost use Rattle.sqlite.specs.Held.{state};
 ghost use Rattle.result_keeper.specs.Entries.{context_pair};
-ghost use Rattle.result_keeper.specs.Kept.{moved_rows, CanMigrate};
-ghost use Rattle.sqlite_keeper.specs.Tables.{IsStore, result_rows, version_in, projects_in, results_in};
+ghost use Rattle.result_keeper.specs.Kept.{CanMigrate, migrated};
+ghost use Rattle.sqlite_keeper.specs.Tables.{IsStore, result_rows, version_in};
 ghost use Rattle.sqlite_keeper.specs.Told.{kept_in};
-ghost use Rattle.sqlite_keeper.specs.Changes.{HasTables, HasResults, HasMoved, Opens, IsStill, RunsWithin};
+ghost use Rattle.sqlite_keeper.specs.Changes.{HasTables, HasResults, HasMoved, Opens, IsStill, RunsWithin, Turns, TurnsWithin, FailsAlone, in_version_2, with_moved};
 
 use crate::autocommit::{execute, query};
 use crate::project_table::{count_in, has_row};
@@ -50,7 +50,7 @@ fn are_some(count: i64) -> bool
 
 fn put_version<S: Steady>(conn: &mut Connection<S>) -> Result<(), Error>
     ensures { S.is_steady ≡ true → IsStore (state S.Store conn.old).now
-        → OnOk result (HasTables 2 (projects_in (state S.Store conn.old).now) (results_in (state S.Store conn.old).now) (state S.Store conn.new).now) }
+        → OnOk result (HasTables (in_version_2 (kept_in (state S.Store conn.old).now)) (state S.Store conn.new).now) }
 {
     execute(conn, INSERT_VERSION, &[])?;
     Ok(())
@@ -73,8 +73,10 @@ pub fn is_old<S: Steady>(conn: &mut Connection<S>) -> Result<bool, Error>
 
 fn move_context<S: Alter>(tx: &mut Transaction<'_, S>, pair: &ContextPair) -> Result<usize, Error>
     ensures same_reference { tx.new.conn.ghost_name ≡ tx.old.conn.ghost_name }
-    ensures moved { HasCleanDisk (state S.Store tx.new.conn.now) → IsTrue (state S.Store tx.old.conn.now).in_transaction → HasResults (state S.Store tx.old.conn.now).now
-        → OnOk result (HasMoved (context_pair pair.now ∷ []) (state S.Store tx.old.conn.now).now (state S.Store tx.new.conn.now).now) }
+    ensures moved { HasCleanDisk (state S.Store tx.new.conn.now)
+        → IsTrue (state S.Store tx.old.conn.now).in_transaction → HasResults (state S.Store tx.old.conn.now).now
+        → OnOk result (HasMoved (context_pair pair.now ∷ [])
+        (state S.Store tx.old.conn.now).now (state S.Store tx.new.conn.now).now) }
     ensures within { RunsWithin (state S.Store tx.old.conn.now) (state S.Store tx.new.conn.now) result }
 {
     tx.execute(
@@ -86,9 +88,9 @@ fn move_context<S: Alter>(tx: &mut Transaction<'_, S>, pair: &ContextPair) -> Re
 // Puts the rows of each old context under its new one.
 fn move_each<S: Alter>(tx: &mut Transaction<'_, S>, pairs: &[ContextPair]) -> Result<(), Error>
     ensures same_reference { tx.new.conn.ghost_name ≡ tx.old.conn.ghost_name }
-    ensures moved { HasCleanDisk (state S.Store tx.new.conn.now) → IsTrue (state S.Store tx.old.conn.now).in_transaction → IsStore (state S.Store tx.old.conn.now).now
-        → CanMigrate (map context_pair pairs.now) (kept_in (state S.Store tx.old.conn.now).now)
-        → OnOk result (HasTables (version_in (state S.Store tx.old.conn.now).now) (projects_in (state S.Store tx.old.conn.now).now) (moved_rows (map context_pair pairs.now) (results_in (state S.Store tx.old.conn.now).now)) (state S.Store tx.new.conn.now).now) }
+    ensures moved { CanMigrate (map context_pair pairs.now) (kept_in (state S.Store tx.old.conn.now).now)
+        → TurnsWithin (with_moved (map context_pair pairs.now))
+        (state S.Store tx.old.conn.now) (state S.Store tx.new.conn.now) result }
     ensures within { RunsWithin (state S.Store tx.old.conn.now) (state S.Store tx.new.conn.now) result }
 {
     for pair in pairs {
@@ -99,8 +101,8 @@ fn move_each<S: Alter>(tx: &mut Transaction<'_, S>, pairs: &[ContextPair]) -> Re
 
 fn put_version_within<S: Alter>(tx: &mut Transaction<'_, S>) -> Result<usize, Error>
     ensures same_reference { tx.new.conn.ghost_name ≡ tx.old.conn.ghost_name }
-    ensures put { HasCleanDisk (state S.Store tx.new.conn.now) → IsTrue (state S.Store tx.old.conn.now).in_transaction → IsStore (state S.Store tx.old.conn.now).now
-        → OnOk result (HasTables 2 (projects_in (state S.Store tx.old.conn.now).now) (results_in (state S.Store tx.old.conn.now).now) (state S.Store tx.new.conn.now).now) }
+    ensures put { TurnsWithin in_version_2
+        (state S.Store tx.old.conn.now) (state S.Store tx.new.conn.now) result }
     ensures within { RunsWithin (state S.Store tx.old.conn.now) (state S.Store tx.new.conn.now) result }
 {
     tx.execute(INSERT_VERSION, &[])
@@ -111,9 +113,9 @@ fn migrate_within<S: Alter>(
     pairs: &[ContextPair],
 ) -> Result<usize, Error>
     ensures same_reference { tx.new.conn.ghost_name ≡ tx.old.conn.ghost_name }
-    ensures migrated { HasCleanDisk (state S.Store tx.new.conn.now) → IsTrue (state S.Store tx.old.conn.now).in_transaction → IsStore (state S.Store tx.old.conn.now).now
-        → CanMigrate (map context_pair pairs.now) (kept_in (state S.Store tx.old.conn.now).now)
-        → OnOk result (HasTables 2 (projects_in (state S.Store tx.old.conn.now).now) (moved_rows (map context_pair pairs.now) (results_in (state S.Store tx.old.conn.now).now)) (state S.Store tx.new.conn.now).now) }
+    ensures migrated { CanMigrate (map context_pair pairs.now) (kept_in (state S.Store tx.old.conn.now).now)
+        → TurnsWithin (migrated (map context_pair pairs.now))
+        (state S.Store tx.old.conn.now) (state S.Store tx.new.conn.now) result }
     ensures within { RunsWithin (state S.Store tx.old.conn.now) (state S.Store tx.new.conn.now) result }
 {
     move_each(tx, pairs)?;
@@ -122,11 +124,9 @@ fn migrate_within<S: Alter>(
 
 // Puts the rows of each old context under its new one, and the version 2 into the store, or nothing.
 pub fn migrate<S: Alter>(conn: &mut Connection<S>, pairs: &[ContextPair]) -> Result<(), Error>
-    ensures migrated { HasCleanDisk (state S.Store conn.new) → IsStore (state S.Store conn.old).now
-        → CanMigrate (map context_pair pairs.now) (kept_in (state S.Store conn.old).now)
-        → OnOk result (HasTables 2 (projects_in (state S.Store conn.old).now) (moved_rows (map context_pair pairs.now) (results_in (state S.Store conn.old).now)) (state S.Store conn.new).now) }
-    ensures err { HasCleanDisk (state S.Store conn.new) → IsTrue (state S.Store conn.new).is_open
-        → OnErr result ((state S.Store conn.new).now ≡ (state S.Store conn.old).now) }
+    ensures migrated { CanMigrate (map context_pair pairs.now) (kept_in (state S.Store conn.old).now)
+        → Turns (migrated (map context_pair pairs.now)) (state S.Store conn.old) (state S.Store conn.new) result }
+    ensures err { FailsAlone (state S.Store conn.old) (state S.Store conn.new) result }
 {
     if !conn.is_autocommit() {
         return Err(Error::SqliteFailure(ErrorCode::TransactionState));

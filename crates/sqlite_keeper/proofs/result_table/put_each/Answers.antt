@@ -2,8 +2,8 @@ use Rattle.std.proofs.Common.{◌+◌, ◌++◌, [], ◌∷◌, Ok, refl, sym, a
 use Rattle.std.proofs.lemmas.List.{take_more, take_all}
 use Rattle.sqlite.specs.Held.{state}
 use Rattle.result_keeper.specs.Entries.{pair_of}
-use Rattle.result_keeper.specs.Kept.{put_rows}
-use Rattle.sqlite_keeper.specs.Tables.{version_in, projects_in, results_in}
+use Rattle.result_keeper.specs.Kept.{with_rows}
+use Rattle.sqlite_keeper.specs.Told.{kept_in}
 use Rattle.sqlite_keeper.specs.Changes.{HasTables}
 use Rattle.sqlite_keeper.proofs.Within.{within_here, within_then, within_ok, within_fails}
 use Rattle.sqlite_keeper.proofs.ResultRows.{put_more}
@@ -49,7 +49,7 @@ pub returns-clause-put : goal.returns-clause-put
 returns-clause-put g c = λ clean on is.
     let first = state g.S.Store c.args.tx.now.conn.now in
     let rows = c.args.rows.now in
-    subst (λ l. HasTables (version_in first.now) (projects_in first.now) (put_rows c.args.context.now (map pair_of l) (results_in first.now)) (state g.S.Store c.loop-row.tx.conn.now).now)
+    subst (λ l. HasTables (with_rows c.args.context.now (map pair_of l) (kept_in first.now)) (state g.S.Store c.loop-row.tx.conn.now).now)
     (take_all c.loop-row.row-index rows (omega (arith, c.loop-row-test.false))) (c.loop-row.invariant.2 clean on is)
 
 pub returns-clause-within : goal.returns-clause-within

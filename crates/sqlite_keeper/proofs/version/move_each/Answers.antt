@@ -42,7 +42,7 @@ pub returns-clause-same_reference : goal.returns-clause-same_reference
 returns-clause-same_reference g c = c.loop-pair.invariant.0
 
 pub returns-clause-moved : goal.returns-clause-moved
-returns-clause-moved g c = λ clean on is can.
+returns-clause-moved g c = λ can clean on is.
     let first = state g.S.Store c.args.tx.now.conn.now in
     let new = state g.S.Store c.loop-pair.tx.conn.now in
     let pairs = map context_pair c.args.pairs.now in

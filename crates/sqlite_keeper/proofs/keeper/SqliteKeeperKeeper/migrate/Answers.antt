@@ -13,8 +13,8 @@ returns-in-Ok-clause-migrated g c =
     told_turns g.S.Steady.is_steady c.args.self.now.is_old false old new (migrated pairs) (λ steady version is.
     let sure = g.met.S.Steady.stays c.migrate.new.conn.store steady in
     let can = told_holds g.S.Steady.is_steady c.args.self.now.is_old old (CanMigrate pairs) c.requires.pairs steady version is in
-    let it = c.in-Ok.ensures.migrated sure.clean is can in
-    (it.is, kept_is _ _ _ _ it, it.version))
+    let it = c.in-Ok.ensures.migrated can sure.clean is in
+    (it.is, kept_is _ _ it, it.version))
 
 pub returns-in-Err-clause-err : goal.returns-in-Err-clause-err
 returns-in-Err-clause-err g c =

@@ -10,4 +10,4 @@ returns-in-Ok-clause-put g c =
     told_becomes g.S.Steady.is_steady c.args.self.now.is_old (state g.S.Store c.args.self.now.conn).now (state g.S.Store c.keep_rows.new.conn).now (with_rows c.args.context.now (map pair_of c.args.rows.now)) (λ k. refl) (λ steady is.
     let sure = g.met.S.Steady.stays c.keep_rows.new.conn.store steady in
     let it = c.in-Ok.ensures.put sure.clean is in
-    (it.is, kept_is _ _ _ _ it))
+    (it.is, kept_is _ _ it))

@@ -15,4 +15,4 @@ returns-in-Ok-clause-removed g c =
     told_becomes g.S.Steady.is_steady c.args.self.now.is_old (state g.S.Store c.args.self.now.conn).now (state g.S.Store c.remove_file.new.conn).now (without_project c.args.name.now) (λ k. refl) (λ steady is.
     let sure = g.met.S.Steady.stays c.remove_file.new.conn.store steady in
     let it = c.in-Ok.ensures.removed sure.clean is in
-    (it.is, kept_is _ _ _ _ it))
+    (it.is, kept_is _ _ it))
