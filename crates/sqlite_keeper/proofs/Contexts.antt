@@ -175,7 +175,7 @@ contexts_of_rows old new rows is h =
     let groups = a.distinct.0 in
     let part = a.distinct.1 in
     let there : IsPermutation outs (flat_map members groups) = subst (λ l. IsPermutation l (flat_map members groups)) staged part.same in
-    let good = recursion_from_All IsContextOutput (flat_map members groups) (All-permutation IsContextOutput outs (flat_map members groups) there (context_output all is.results)) in
+    let good = recursion_from_All IsContextOutput (flat_map members groups) (All-permutation IsContextOutput outs (flat_map members groups) there (context_output all is.results.typed)) in
     let firsts = map (λ (g : Group). g.0) groups in
     let moved : IsPermutation firsts a.ordered = subst (λ k. IsPermutation k a.ordered) a.distinct.2 a.same in
     let outputs : All IsContextOutput a.ordered = All-permutation IsContextOutput firsts a.ordered moved (All-from_recursion IsContextOutput firsts (good_firsts groups good)) in
@@ -186,7 +186,7 @@ contexts_of_rows old new rows is h =
     let kept = map (λ (k : List ℕ × List ℕ). k.0) (keys m) in
     let right = IsStrictlySortedBy-dedup bytes_total (λ x y. sym (is_eq-slice_cmp x y)) kept (sorted_contexts (entries m) (entries_sorted m)) in
     let contexts : map first_bytes outs ≡ map (λ k. k.0) (map (λ e. e.0) es) = map-map first_bytes shown_row all ∙ sym (map-map (λ k. k.0) (λ r. (result_entry r).0) all) ∙ ap (map (λ k. k.0)) (sym (map-map (λ e. e.0) result_entry all)) in
-    let whole = IsPermutation-map (λ k. k.0) (map (λ e. e.0) es) (keys m) (IsPermutation-map (λ e. e.0) es (entries m) (entries_permute row_cmp row_total es is.keys)) in
+    let whole = IsPermutation-map (λ k. k.0) (map (λ e. e.0) es) (keys m) (IsPermutation-map (λ e. e.0) es (entries m) (entries_permute row_cmp row_total es is.results.apart)) in
     let alike = λ (q : List ℕ).
     sym (list_any-IsPermutation (bytes_eq q) (map first_bytes firsts) cs spread)
     ∙ firsts_any q groups good part.alike

@@ -106,7 +106,7 @@ number_of_rows old new rows z is h first =
 pub full_of_rows : (db : Database) → IsStore db → nat_le most_projects (min (length (project_rows db)) 9223372036854775807) ≡ nat_le most_projects (len (projects_in db))
 full_of_rows db is =
     let all = project_rows db in
-    past (length all) ∙ ap (nat_le most_projects) (sym (len-from_entries bytes_cmp bytes_total (map project_entry all) is.names ∙ length-map all project_entry))
+    past (length all) ∙ ap (nat_le most_projects) (sym (len-from_entries bytes_cmp bytes_total (map project_entry all) is.projects.apart ∙ length-map all project_entry))
 
 abbrev pub count_results_text : List ℕ
 count_results_text = codes "SELECT COUNT(*) FROM result"

@@ -94,7 +94,7 @@ file_of old new name rows is h =
     let all = project_rows old.now in
     let first = λ (r : Row). bytes (column r 0) in
     let permuted = IsPermutation-map first (files_named name all) rows (finds old new name rows is.schema h) in
-    let one : map first (files_named name all) ≡ option_to_list (find bytes_cmp name (map project_entry all)) = map-map first (λ r. column r 2 ∷ []) (filter (is_named name) all) ∙ named_one name all (recursion_from_All IsProjectRow all is.projects) is.names in
+    let one : map first (files_named name all) ≡ option_to_list (find bytes_cmp name (map project_entry all)) = map-map first (λ r. column r 2 ∷ []) (filter (is_named name) all) ∙ named_one name all (recursion_from_All IsProjectRow all is.projects.typed) is.projects.apart in
     slice_get-map first rows
     ∙ first_of_option (find bytes_cmp name (map project_entry all)) (map first rows) (subst (λ l. IsPermutation l (map first rows)) one permuted)
     ∙ sym (get-from_entries bytes_total (map project_entry all) name)

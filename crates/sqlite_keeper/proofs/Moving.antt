@@ -34,13 +34,13 @@ use Rattle.sqlite_rules.specs.Calls.{ids_of}
 use Rattle.sqlite_schema.specs.declared.program.Program.{Program}
 use Rattle.sqlite_trees.proofs.TreeLemmas.{all-put_row, IsTable-put_row}
 use Rattle.result_keeper.specs.Kept.{Kept, bytes_cmp, row_cmp, moved, CanMigrate}
-use Rattle.result_keeper.specs.Entries.{AreApart, context_pair}
+use Rattle.result_keeper.specs.Entries.{context_pair}
 use Rattle.result_keeper.specs.declared.ContextPair.{ContextPair}
 use Rattle.result_keeper.proofs.Orders.{bytes_total, bytes_exact, row_total, row_exact}
 use Rattle.result_keeper.proofs.Maps.{same_in_any_order}
 use Rattle.result_keeper.proofs.Moves.{moves, moves_apart, moved_then}
 use Rattle.sqlite_keeper.specs.Schema.{store_schema}
-use Rattle.sqlite_keeper.specs.Tables.{result_rows, version_told, project_entry, result_entry, IsProjectRow, IsResultRow, IsStore}
+use Rattle.sqlite_keeper.specs.Tables.{result_rows, version_told, project_entry, result_entry, AreProjects, IsResultRow, IsStore}
 use Rattle.sqlite_keeper.specs.Told.{kept_in}
 use Rattle.sqlite_keeper.specs.Changes.{HasTables, HasResults, HasMoved, with_moved}
 use Rattle.sqlite_keeper.proofs.Statements.{numbered_result, move_results_text, move_results_query, by_parameter, move_results_is}
@@ -215,7 +215,7 @@ moved_none (e ∷ es) = ap (λ l. e ∷ l) (moved_none es)
 
 pub none_moved : (db : Database) → IsStore db → HasMoved [] db db
 none_moved db is = record {
-  is = record { schema = is.schema; results = is.results; ordered = is.results_ordered };
+  is = record { schema = is.schema; results = is.results.typed; ordered = is.results.ordered };
   projects = refl;
   store = refl;
   entries = subst (λ l. IsPermutation l (map result_entry (result_rows db))) (sym (moved_none (map result_entry (result_rows db)))) (IsPermutation-refl (map result_entry (result_rows db)));
@@ -274,18 +274,18 @@ pub moved_tables : (ps : Pairs) (old new : Database) → IsStore old → CanMigr
 moved_tables ps old new is can m =
     let es = map result_entry (result_rows old) in
     let now = map result_entry (result_rows new) in
-    let apart = moves_apart ps es is.keys can.olds can.news in
+    let apart = moves_apart ps es is.results.apart can.olds can.news in
     record {
       is = record {
         schema = m.is.schema;
-        projects = subst (All IsProjectRow) (sym m.projects) is.projects;
-        results = m.is.results;
-        projects_ordered = subst IsTable (sym m.projects) is.projects_ordered;
-        results_ordered = m.is.ordered;
-        names = subst (λ l. AreApart bytes_cmp (map project_entry l)) (sym m.projects) is.names;
-        keys = IsDistinct-IsPermutation (eq_by_cmp row_cmp) (eq_by_cmp_equiv row_total).symm (map (λ e. e.0) (map (moved ps) es)) (map (λ e. e.0) now) (IsPermutation-map (λ e. e.0) (map (moved ps) es) now m.entries) apart;
+        projects = subst AreProjects (sym m.projects) is.projects;
+        results = record {
+          typed = m.is.results;
+          ordered = m.is.ordered;
+          apart = IsDistinct-IsPermutation (eq_by_cmp row_cmp) (eq_by_cmp_equiv row_total).symm (map (λ e. e.0) (map (moved ps) es)) (map (λ e. e.0) now) (IsPermutation-map (λ e. e.0) (map (moved ps) es) now m.entries) apart;
+        };
       };
       version = ap version_told m.store;
       projects = ap (λ l. from_entries (map project_entry l)) m.projects;
-      rows = sym (same_in_any_order row_cmp row_total bytes_cmp bytes_total row_exact bytes_exact (map (moved ps) es) now apart m.entries) ∙ moves ps es is.keys can.olds can.news;
+      rows = sym (same_in_any_order row_cmp row_total bytes_cmp bytes_total row_exact bytes_exact (map (moved ps) es) now apart m.entries) ∙ moves ps es is.results.apart can.olds can.news;
     }

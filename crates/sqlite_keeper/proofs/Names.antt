@@ -50,11 +50,11 @@ names_of_rows old new rows is h =
     let a : IsAnswer names_query (overlay old.now.trees []) [] rows = answer_of names_text names_query _ names_is [] old new rows is.schema h in
     let kept : a.kept ≡ map shown_row all = a.distinct ∙ ap (map (output names_query)) a.grouped ∙ shows_is all in
     let moved : IsPermutation (map shown_row all) a.ordered = subst (λ k. IsPermutation k a.ordered) kept a.same in
-    let outputs : All IsNameOutput a.ordered = All-permutation IsNameOutput (map shown_row all) a.ordered moved (name_output all is.projects) in
+    let outputs : All IsNameOutput a.ordered = All-permutation IsNameOutput (map shown_row all) a.ordered moved (name_output all is.projects.typed) in
     let ns = map first_bytes a.ordered in
     let up : IsSorted bytes_cmp ns = sorted_map first_bytes bytes_cmp bytes_total a.ordered (sorted_alike first_cmp (on first_bytes bytes_cmp) IsTextFirst text_first a.ordered (λ k d l. (outputs k d l).text) a.sorted) in
     let names : IsPermutation (map (λ e. e.0) (map project_entry all)) ns = subst (λ l. IsPermutation l ns) (map-map first_bytes shown_row all ∙ sym (map-map (λ e. e.0) project_entry all)) (IsPermutation-map first_bytes (map shown_row all) a.ordered moved) in
-    ap (filter_map shown_name) a.shown ∙ shown_name-output a.ordered outputs ∙ sorted_are_keys bytes_cmp bytes_total bytes_exact (map project_entry all) ns is.names names up
+    ap (filter_map shown_name) a.shown ∙ shown_name-output a.ordered outputs ∙ sorted_are_keys bytes_cmp bytes_total bytes_exact (map project_entry all) ns is.projects.apart names up
 
 pub names_of_rows_if : (old new : State) (result : Result (Vec Row Global) Error) → IsStore old.now → IfOk result (λ rows. Shown names_text [] old new rows.items) → IfOk result (λ rows. filter_map shown_name rows.items ≡ names_in (projects_in old.now))
 names_of_rows_if old new (Err e) is h = tt

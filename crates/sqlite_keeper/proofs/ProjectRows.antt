@@ -30,14 +30,14 @@ use Rattle.sqlite.specs.Listing.{understood}
 use Rattle.sqlite.proofs.Callers.{statement_of, runs_as}
 use Rattle.sqlite_trees.proofs.TreeLemmas.{all-put_row, IsTable-put_row}
 use Rattle.result_keeper.specs.ProjectName.{is_project_name}
-use Rattle.result_keeper.specs.Kept.{Kept, bytes_cmp, row_cmp, without_project, after_put}
+use Rattle.result_keeper.specs.Kept.{Kept, bytes_cmp, without_project, after_put}
 use Rattle.result_keeper.specs.declared.Put.TheVariants.{Added, Replaced}
 use Rattle.result_keeper.specs.Entries.{AreApart}
 use Rattle.result_keeper.proofs.Orders.{bytes_total, bytes_exact}
 use Rattle.result_keeper.proofs.Maps.{same_in_any_order}
 use Rattle.result_keeper.proofs.PlaceLemmas as place
 use Rattle.sqlite_keeper.specs.Schema.{store_schema, project_table}
-use Rattle.sqlite_keeper.specs.Tables.{project_rows, result_rows, store_rows, version_told, project_entry, result_entry, projects_in, IsProjectRow, IsResultRow, IsStore}
+use Rattle.sqlite_keeper.specs.Tables.{project_rows, result_rows, store_rows, version_told, project_entry, result_entry, projects_in, AreProjects, AreResults, IsProjectRow, IsStore}
 use Rattle.sqlite_keeper.specs.Told.{kept_in}
 use Rattle.sqlite_keeper.specs.Changes.{HasTables}
 use Rattle.sqlite_keeper.proofs.Statements.{delete_project_text, delete_project_query, delete_project_is, insert_project_text, project_terms, insert_project_is}
@@ -89,10 +89,10 @@ removes_project old new name count is h =
     let kept = a.distinct ∙ ap (map (output delete_project_query)) a.grouped in
     let found : IsPermutation (map (λ r. column r 0 ∷ []) (filter (is_named name) rows)) it.found =
     subst₂ IsPermutation (ap (map (λ (o : Output). o.1)) kept ∙ shows_ids name rows) (sym a.shown) (IsPermutation-map (λ (o : Output). o.1) a.kept a.ordered a.same) in
-    let good = weaken IsProjectRow IsNumbered (λ r p. p.number) rows (recursion_from_All IsProjectRow rows is.projects) in
+    let good = weaken IsProjectRow IsNumbered (λ r p. p.number) rows (recursion_from_All IsProjectRow rows is.projects.typed) in
     record {
       schema = it.schema;
-      projects = it.rows ∙ taken_out (is_named name) (λ r. column r 0 ∷ []) (λ r. refl) rows it.found good is.projects_ordered found;
+      projects = it.rows ∙ taken_out (is_named name) (λ r. column r 0 ∷ []) (λ r. refl) rows it.found good is.projects.ordered found;
       results = it.others.1.0 two_is_not;
       store = it.others.1.1.0 four_is_not;
       count = w.counted ∙ ap (λ o. unwrap_or o 0) it.count ∙ length_permutation _ it.found found ∙ length-map (filter (is_named name) rows) _;
@@ -102,20 +102,20 @@ removes_project old new name count is h =
 pub removed_tables : (name : List ℕ) (old new : Database) (count : ℕ) → IsStore old → RemovesProject name old new count → HasTables (without_project name (kept_in old)) new
 removed_tables name old new count is r =
     let rows = project_rows old in
-    let good = recursion_from_All IsProjectRow rows is.projects in
-    let same : project_rows new ≡ filter (λ x. not (eq_by_cmp bytes_cmp name (project_entry x).0)) rows = r.projects ∙ filter_alike IsProjectRow _ _ (λ x p. ap not (named_entry name x p)) rows good in
+    let good = recursion_from_All IsProjectRow rows is.projects.typed in
+    let alike : filter (λ x. not (is_named name x)) rows ≡ filter (λ x. not (eq_by_cmp bytes_cmp name (project_entry x).0)) rows = filter_alike IsProjectRow _ _ (λ x p. ap not (named_entry name x p)) rows good in
     record {
       is = record {
         schema = r.schema;
-        projects = subst (All IsProjectRow) (sym r.projects) (All-from_recursion IsProjectRow _ (all_filter IsProjectRow _ rows good));
-        results = subst (All IsResultRow) (sym r.results) is.results;
-        projects_ordered = subst IsTable (sym r.projects) (ordered_filter _ rows is.projects_ordered);
-        results_ordered = subst IsTable (sym r.results) is.results_ordered;
-        names = subst (λ l. AreApart bytes_cmp (map project_entry l)) (sym same) (place.removes_apart bytes_cmp bytes_total bytes_exact project_entry name rows is.names);
-        keys = subst (λ l. AreApart row_cmp (map result_entry l)) (sym r.results) is.keys;
+        projects = subst AreProjects (sym r.projects) (record {
+          typed = All-from_recursion IsProjectRow _ (all_filter IsProjectRow _ rows good);
+          ordered = ordered_filter _ rows is.projects.ordered;
+          apart = subst (λ l. AreApart bytes_cmp (map project_entry l)) (sym alike) (place.removes_apart bytes_cmp bytes_total bytes_exact project_entry name rows is.projects.apart);
+        });
+        results = subst AreResults (sym r.results) is.results;
       };
       version = ap version_told r.store;
-      projects = ap (λ l. from_entries (map project_entry l)) same ∙ place.removes bytes_cmp bytes_total bytes_exact project_entry name rows;
+      projects = ap (λ l. from_entries (map project_entry l)) (r.projects ∙ alike) ∙ place.removes bytes_cmp bytes_total bytes_exact project_entry name rows;
       rows = ap (λ l. from_entries (map result_entry l)) r.results;
     }
 
@@ -126,7 +126,7 @@ some_or_none (Some v) = refl
 pub was_kept : (name : List ℕ) (old new : Database) (count : ℕ) → IsStore old → RemovesProject name old new count → nat_lt 0 count ≡ contains_key (projects_in old) name
 was_kept name old new count is r =
     let rows = project_rows old in
-    let one = named_one name rows (recursion_from_All IsProjectRow rows is.projects) is.names in
+    let one = named_one name rows (recursion_from_All IsProjectRow rows is.projects.typed) is.projects.apart in
     ap (nat_lt 0) (r.count ∙ sym (length-map (filter (is_named name) rows) (λ x. bytes (column x 2))) ∙ ap length one)
     ∙ some_or_none (find bytes_cmp name (map project_entry rows))
     ∙ ap is_some (sym (get-from_entries bytes_total (map project_entry rows) name))
@@ -181,21 +181,21 @@ added_tables name file old new fine is free a =
     let rows = project_rows old in
     let row = project_row rows name file in
     let es = map project_entry (row ∷ rows) in
-    let good = recursion_from_All IsProjectRow rows is.projects in
+    let good = recursion_from_All IsProjectRow rows is.projects.typed in
     let fits : IsProjectRow row = record { number = refl; name = refl; named = fine; file = refl } in
     let all : IsPermutation (row ∷ rows) (project_rows new) = subst (IsPermutation (row ∷ rows)) (sym a.projects) (put_permutes row rows a.fresh) in
     let moved : IsPermutation es (map project_entry (project_rows new)) = IsPermutation-map project_entry (row ∷ rows) (project_rows new) all in
     let missing : find bytes_cmp name (map project_entry rows) ≡ None = is_none _ (ap is_some (sym (get-from_entries bytes_total (map project_entry rows) name)) ∙ free) in
-    let apart : AreApart bytes_cmp es = (apart_from bytes_cmp name (map project_entry rows) missing, is.names) in
+    let apart : AreApart bytes_cmp es = (apart_from bytes_cmp name (map project_entry rows) missing, is.projects.apart) in
     record {
       is = record {
         schema = a.schema;
-        projects = subst (All IsProjectRow) (sym a.projects) (All-from_recursion IsProjectRow _ (all-put_row IsProjectRow row rows fits good));
-        results = subst (All IsResultRow) (sym a.results) is.results;
-        projects_ordered = subst IsTable (sym a.projects) (IsTable-put_row row rows is.projects_ordered);
-        results_ordered = subst IsTable (sym a.results) is.results_ordered;
-        names = IsDistinct-IsPermutation (eq_by_cmp bytes_cmp) (eq_by_cmp_equiv bytes_total).symm (map (λ e. e.0) es) (map (λ e. e.0) (map project_entry (project_rows new))) (IsPermutation-map (λ e. e.0) es _ moved) apart;
-        keys = subst (λ l. AreApart row_cmp (map result_entry l)) (sym a.results) is.keys;
+        projects = record {
+          typed = subst (All IsProjectRow) (sym a.projects) (All-from_recursion IsProjectRow _ (all-put_row IsProjectRow row rows fits good));
+          ordered = subst IsTable (sym a.projects) (IsTable-put_row row rows is.projects.ordered);
+          apart = IsDistinct-IsPermutation (eq_by_cmp bytes_cmp) (eq_by_cmp_equiv bytes_total).symm (map (λ e. e.0) es) (map (λ e. e.0) (map project_entry (project_rows new))) (IsPermutation-map (λ e. e.0) es _ moved) apart;
+        };
+        results = subst AreResults (sym a.results) is.results;
       };
       version = ap version_told a.store;
       projects = sym (same_in_any_order bytes_cmp bytes_total bytes_cmp bytes_total bytes_exact bytes_exact es (map project_entry (project_rows new)) apart moved);

@@ -37,7 +37,7 @@ use Rattle.result_keeper.proofs.Orders.{bytes_total, bytes_exact, row_total, row
 use Rattle.result_keeper.proofs.Maps.{same_in_any_order}
 use Rattle.result_keeper.proofs.PlaceLemmas as place
 use Rattle.sqlite_keeper.specs.Schema.{store_schema}
-use Rattle.sqlite_keeper.specs.Tables.{project_rows, result_rows, store_rows, version_told, project_entry, result_entry, results_in, IsProjectRow, IsResultRow, IsStore}
+use Rattle.sqlite_keeper.specs.Tables.{project_rows, result_rows, store_rows, version_told, project_entry, result_entry, results_in, AreProjects, AreResults, IsResultRow, IsStore}
 use Rattle.sqlite_keeper.specs.Told.{kept_in}
 use Rattle.sqlite_keeper.specs.Changes.{HasTables, without_row}
 use Rattle.sqlite_keeper.proofs.Statements.{numbered_result, delete_result_text, delete_result_query, by_two_parameters, delete_result_is, insert_result_text, result_terms, insert_result_is}
@@ -104,33 +104,33 @@ removes_result old new c t count is h =
     let kept = a.distinct ∙ ap (map (output delete_result_query)) a.grouped in
     let found : IsPermutation (map (λ r. column r 0 ∷ []) (filter (is_keyed c t) rows)) it.found =
     subst₂ IsPermutation (ap (map (λ (o : Output). o.1)) kept ∙ shows_ids c t rows) (sym a.shown) (IsPermutation-map (λ (o : Output). o.1) a.kept a.ordered a.same) in
-    let good = weaken IsResultRow IsNumbered (λ r p. p.number) rows (recursion_from_All IsResultRow rows is.results) in
+    let good = weaken IsResultRow IsNumbered (λ r p. p.number) rows (recursion_from_All IsResultRow rows is.results.typed) in
     record {
       schema = it.schema;
       projects = it.others.0 zero_is_not;
       store = it.others.1.1.0 four_is_not;
-      results = it.rows ∙ taken_out (is_keyed c t) (λ r. column r 0 ∷ []) (λ r. refl) rows it.found good is.results_ordered found;
+      results = it.rows ∙ taken_out (is_keyed c t) (λ r. column r 0 ∷ []) (λ r. refl) rows it.found good is.results.ordered found;
     }
 
 -- the store after it is the one without the row
 removed_tables : (c t : List ℕ) (old new : Database) → IsStore old → RemovesResult c t old new → HasTables (without_row c t (kept_in old)) new
 removed_tables c t old new is r =
     let rows = result_rows old in
-    let good = recursion_from_All IsResultRow rows is.results in
-    let same : result_rows new ≡ filter (λ x. not (eq_by_cmp row_cmp (c, t) (result_entry x).0)) rows = r.results ∙ filter_alike IsResultRow _ _ (λ x p. ap not (keyed_entry c t x p)) rows good in
+    let good = recursion_from_All IsResultRow rows is.results.typed in
+    let alike : filter (λ x. not (is_keyed c t x)) rows ≡ filter (λ x. not (eq_by_cmp row_cmp (c, t) (result_entry x).0)) rows = filter_alike IsResultRow _ _ (λ x p. ap not (keyed_entry c t x p)) rows good in
     record {
       is = record {
         schema = r.schema;
-        projects = subst (All IsProjectRow) (sym r.projects) is.projects;
-        results = subst (All IsResultRow) (sym r.results) (All-from_recursion IsResultRow _ (all_filter IsResultRow _ rows good));
-        projects_ordered = subst IsTable (sym r.projects) is.projects_ordered;
-        results_ordered = subst IsTable (sym r.results) (ordered_filter _ rows is.results_ordered);
-        names = subst (λ l. AreApart bytes_cmp (map project_entry l)) (sym r.projects) is.names;
-        keys = subst (λ l. AreApart row_cmp (map result_entry l)) (sym same) (place.removes_apart row_cmp row_total row_exact result_entry (c, t) rows is.keys);
+        projects = subst AreProjects (sym r.projects) is.projects;
+        results = subst AreResults (sym r.results) (record {
+          typed = All-from_recursion IsResultRow _ (all_filter IsResultRow _ rows good);
+          ordered = ordered_filter _ rows is.results.ordered;
+          apart = subst (λ l. AreApart row_cmp (map result_entry l)) (sym alike) (place.removes_apart row_cmp row_total row_exact result_entry (c, t) rows is.results.apart);
+        });
       };
       version = ap version_told r.store;
       projects = ap (λ l. from_entries (map project_entry l)) r.projects;
-      rows = ap (λ l. from_entries (map result_entry l)) same ∙ place.removes row_cmp row_total row_exact result_entry (c, t) rows;
+      rows = ap (λ l. from_entries (map result_entry l)) (r.results ∙ alike) ∙ place.removes row_cmp row_total row_exact result_entry (c, t) rows;
     }
 
 -- the row that an insert makes
@@ -170,21 +170,21 @@ added_tables c t v old new is free a =
     let rows = result_rows old in
     let row = result_row rows c t v in
     let es = map result_entry (row ∷ rows) in
-    let good = recursion_from_All IsResultRow rows is.results in
+    let good = recursion_from_All IsResultRow rows is.results.typed in
     let fits : IsResultRow row = record { number = refl; context = refl; tree = refl; value = refl } in
     let all : IsPermutation (row ∷ rows) (result_rows new) = subst (IsPermutation (row ∷ rows)) (sym a.results) (put_permutes row rows a.fresh) in
     let moved : IsPermutation es (map result_entry (result_rows new)) = IsPermutation-map result_entry (row ∷ rows) (result_rows new) all in
     let missing : find row_cmp (c, t) (map result_entry rows) ≡ None = is_none _ (ap is_some (sym (get-from_entries row_total (map result_entry rows) (c, t))) ∙ free) in
-    let apart : AreApart row_cmp es = (apart_from row_cmp (c, t) (map result_entry rows) missing, is.keys) in
+    let apart : AreApart row_cmp es = (apart_from row_cmp (c, t) (map result_entry rows) missing, is.results.apart) in
     record {
       is = record {
         schema = a.schema;
-        projects = subst (All IsProjectRow) (sym a.projects) is.projects;
-        results = subst (All IsResultRow) (sym a.results) (All-from_recursion IsResultRow _ (all-put_row IsResultRow row rows fits good));
-        projects_ordered = subst IsTable (sym a.projects) is.projects_ordered;
-        results_ordered = subst IsTable (sym a.results) (IsTable-put_row row rows is.results_ordered);
-        names = subst (λ l. AreApart bytes_cmp (map project_entry l)) (sym a.projects) is.names;
-        keys = IsDistinct-IsPermutation (eq_by_cmp row_cmp) (eq_by_cmp_equiv row_total).symm (map (λ e. e.0) es) (map (λ e. e.0) (map result_entry (result_rows new))) (IsPermutation-map (λ e. e.0) es _ moved) apart;
+        projects = subst AreProjects (sym a.projects) is.projects;
+        results = record {
+          typed = subst (All IsResultRow) (sym a.results) (All-from_recursion IsResultRow _ (all-put_row IsResultRow row rows fits good));
+          ordered = subst IsTable (sym a.results) (IsTable-put_row row rows is.results.ordered);
+          apart = IsDistinct-IsPermutation (eq_by_cmp row_cmp) (eq_by_cmp_equiv row_total).symm (map (λ e. e.0) es) (map (λ e. e.0) (map result_entry (result_rows new))) (IsPermutation-map (λ e. e.0) es _ moved) apart;
+        };
       };
       version = ap version_told a.store;
       projects = ap (λ l. from_entries (map project_entry l)) a.projects;

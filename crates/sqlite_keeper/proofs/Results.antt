@@ -113,7 +113,7 @@ pub results_of_rows : (old new : State) (c : List ℕ) (rows : List Row) → IsS
 results_of_rows old new c rows is h =
     let all = result_rows old.now in
     let es = map result_entry all in
-    let typed = recursion_from_All IsResultRow all is.results in
+    let typed = recursion_from_All IsResultRow all is.results.typed in
     let a : IsAnswer results_query (overlay old.now.trees []) (Blob c ∷ []) rows = answer_of results_text results_query _ results_is (Blob c ∷ []) old new rows is.schema h in
     let found = map shown_row (filter (is_within c) all) in
     let kept : a.kept ≡ found = a.distinct ∙ ap (map (output results_query)) a.grouped ∙ shows_is c all in
@@ -123,8 +123,8 @@ results_of_rows old new c rows is h =
     let pairs : IsPermutation (within c es) ps = subst (λ l. IsPermutation l ps) (pairs_is c all typed) (IsPermutation-map out_pair found a.ordered moved) in
     let by_tree : IsSorted (on (λ p. p.0) bytes_cmp) ps = sorted_map out_pair (on (λ (p : List ℕ × List ℕ). p.0) bytes_cmp) (on_total (λ (p : List ℕ × List ℕ). p.0) bytes_total) a.ordered
     (sorted_alike first_cmp (on out_pair (on (λ (p : List ℕ × List ℕ). p.0) bytes_cmp)) IsTreeOutput tree_first a.ordered outputs a.sorted) in
-    let trees = IsDistinct-IsPermutation (eq_by_cmp bytes_cmp) (eq_by_cmp_equiv bytes_total).symm (map (λ p. p.0) (within c es)) (map (λ p. p.0) ps) (IsPermutation-map (λ p. p.0) (within c es) ps pairs) (trees_apart c es is.keys) in
-    ap (map shown_pair) a.shown ∙ map-map shown_pair (λ (o : Output). o.1) a.ordered ∙ sorted_are_results c es ps is.keys pairs (rising ps by_tree trees)
+    let trees = IsDistinct-IsPermutation (eq_by_cmp bytes_cmp) (eq_by_cmp_equiv bytes_total).symm (map (λ p. p.0) (within c es)) (map (λ p. p.0) ps) (IsPermutation-map (λ p. p.0) (within c es) ps pairs) (trees_apart c es is.results.apart) in
+    ap (map shown_pair) a.shown ∙ map-map shown_pair (λ (o : Output). o.1) a.ordered ∙ sorted_are_results c es ps is.results.apart pairs (rising ps by_tree trees)
 
 pub results_of_rows_if : (old new : State) (c : List ℕ) (result : Result (Vec Row Global) Error) → IsStore old.now → IfOk result (λ rows. Shown results_text (Blob c ∷ []) old new rows.items)
     → IfOk result (λ rows. map shown_pair rows.items ≡ within c (entries (results_in old.now)))

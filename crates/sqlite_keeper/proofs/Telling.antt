@@ -153,23 +153,27 @@ store_is db h =
     let f = both_true (ascends (λ x y. not (eq_by_cmp bytes_cmp x y)) (map (λ e. e.0) (map project_entry (project_rows db)))) _ e.1 in
     record {
       schema = schema_is db.schema a.0;
-      projects = All-from_recursion IsProjectRow (project_rows db) (all_are is_project_row IsProjectRow project_is (project_rows db) b.0);
-      results = All-from_recursion IsResultRow (result_rows db) (all_are is_result_row IsResultRow result_is (result_rows db) c.0);
-      projects_ordered = table_is (project_rows db) d.0;
-      results_ordered = table_is (result_rows db) e.0;
-      names = distinct_is (eq_by_cmp bytes_cmp) _ f.0;
-      keys = distinct_is (eq_by_cmp row_cmp) _ f.1;
+      projects = record {
+        typed = All-from_recursion IsProjectRow (project_rows db) (all_are is_project_row IsProjectRow project_is (project_rows db) b.0);
+        ordered = table_is (project_rows db) d.0;
+        apart = distinct_is (eq_by_cmp bytes_cmp) _ f.0;
+      };
+      results = record {
+        typed = All-from_recursion IsResultRow (result_rows db) (all_are is_result_row IsResultRow result_is (result_rows db) c.0);
+        ordered = table_is (result_rows db) e.0;
+        apart = distinct_is (eq_by_cmp row_cmp) _ f.1;
+      };
     }
 
 pub is_a_store : (db : Database) → IsStore db → is_store db ≡ true
 unfolding is_store
 is_a_store db is =
     true_both (has_schema db.schema) _ (is_schema db.schema is.schema)
-    (true_both (list_all is_project_row (project_rows db)) _ (are_all is_project_row IsProjectRow is_project (project_rows db) (recursion_from_All IsProjectRow (project_rows db) is.projects))
-    (true_both (list_all is_result_row (result_rows db)) _ (are_all is_result_row IsResultRow is_result (result_rows db) (recursion_from_All IsResultRow (result_rows db) is.results))
-    (true_both (ascends below (project_rows db)) _ (is_table (project_rows db) is.projects_ordered)
-    (true_both (ascends below (result_rows db)) _ (is_table (result_rows db) is.results_ordered)
-    (true_both (ascends (λ x y. not (eq_by_cmp bytes_cmp x y)) (map (λ e. e.0) (map project_entry (project_rows db)))) _ (is_distinct (eq_by_cmp bytes_cmp) _ is.names) (is_distinct (eq_by_cmp row_cmp) _ is.keys))))))
+    (true_both (list_all is_project_row (project_rows db)) _ (are_all is_project_row IsProjectRow is_project (project_rows db) (recursion_from_All IsProjectRow (project_rows db) is.projects.typed))
+    (true_both (list_all is_result_row (result_rows db)) _ (are_all is_result_row IsResultRow is_result (result_rows db) (recursion_from_All IsResultRow (result_rows db) is.results.typed))
+    (true_both (ascends below (project_rows db)) _ (is_table (project_rows db) is.projects.ordered)
+    (true_both (ascends below (result_rows db)) _ (is_table (result_rows db) is.results.ordered)
+    (true_both (ascends (λ x y. not (eq_by_cmp bytes_cmp x y)) (map (λ e. e.0) (map project_entry (project_rows db)))) _ (is_distinct (eq_by_cmp bytes_cmp) _ is.projects.apart) (is_distinct (eq_by_cmp row_cmp) _ is.results.apart))))))
 
 -- ---- what is told
 

@@ -4,6 +4,7 @@
 --   with_moved pairs k == k, where each row stands under the new context of its own
 --   in_version_2 k == k, in version 2
 --   IsEmptyStore db == the database is a store without projects and results
+--   IsGrown old new == the new database has the tables of the store, that of the version without a row, and the rows of the others stay
 --   Opens is_old old new == the new database is a store that holds what a keeper makes of the old one, and whether it is old is told
 --   HasResults db == the database has the tables of the store, and that of results has such rows in the order of their numbers
 --   HasMoved pairs old new == the rows of results are the old ones, each under the new context of its own, and all else stays
@@ -45,6 +46,12 @@ pub record IsEmptyStore (db : Database) : Type 0 where
   pub is : IsStore db
   pub projects : project_rows db ≡ []
   pub results : result_rows db ≡ []
+
+pub record IsGrown (old new : Database) : Type 0 where
+  pub schema : new.schema ≡ store_schema
+  pub projects : project_rows new ≡ project_rows old
+  pub results : result_rows new ≡ result_rows old
+  pub store : store_rows new ≡ []
 
 pub record Opens (is_old : Bool) (old new : Database) : Type 0 where
   pub tables : HasTables (opened old) new

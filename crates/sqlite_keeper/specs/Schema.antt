@@ -1,6 +1,7 @@
 -- The tables of the store, as the database understands their texts.
 --   no_schema == the schema of an empty database
 --   project_table, result_table, store_table == the tables `project`, `result` and `store`; a row is its number, then its columns
+--   first_schema == the schema that has the first two, as stores of version 1 were made
 --   store_schema == the schema that has these tables, made in this order
 use Rattle.std.specs.Prelude.{true, false, [], ◌∷◌, Some, None, codes, pos}
 use Rattle.sqlite.specs.Collation.TheVariants.{Binary}
@@ -68,5 +69,8 @@ store_table = record {
   is_counted = false;
 }
 
+abbrev pub first_schema : Schema
+first_schema = created (created no_schema project_table) result_table
+
 abbrev pub store_schema : Schema
-store_schema = created (created (created no_schema project_table) result_table) store_table
+store_schema = created first_schema store_table

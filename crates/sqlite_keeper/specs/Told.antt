@@ -7,6 +7,8 @@
 --   is_project_row r, is_result_row r, is_store db == tests for IsProjectRow, IsResultRow and IsStore
 --   kept_in db == what the database holds: its version, the projects and the rows of results
 --   opened db == what a keeper makes of it: of version 2 also where there are no results
+--   first_version db == the version of a store that had no table `store`: 1 exactly where it has results
+--   opened_first db == what a keeper makes of it
 --   version_of is_old == the version of a keeper that says whether it is 1
 --   told_of is_steady is_old db == what the database holds, over a store that is clean and open at all times, where the database is a
 --     store of the keeper's version
@@ -82,7 +84,18 @@ abbrev pub kept_in : Database → Kept
 kept_in db = record { version = version_in db; projects = projects_in db; rows = results_in db }
 
 abbrev pub opened : Database → Kept
-opened db = record { version = if nat_lt 0 (length (result_rows db)) then version_in db else 2; projects = projects_in db; rows = results_in db }
+opened db = record {
+  version = if nat_lt 0 (length (result_rows db)) then version_in db else 2;
+  projects = projects_in db;
+  rows = results_in db;
+}
+
+abbrev pub first_version : Database → ℕ
+first_version db = if nat_lt 0 (length (result_rows db)) then 1 else 2
+
+abbrev pub opened_first : Database → Kept
+opened_first db =
+    record { version = first_version db; projects = projects_in db; rows = results_in db }
 
 abbrev pub version_of : Bool → ℕ
 version_of is_old = if is_old then 1 else 2
