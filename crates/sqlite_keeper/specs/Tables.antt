@@ -1,16 +1,22 @@
 -- What the rows of the database tell.
---   project_rows db, result_rows db, store_rows db == the rows of the three tables; a row is its number, then its columns
---   version_told rows, version_in db == the version that the rows of `store` tell: 1 exactly where there are none, else 2
+--   project_rows db, result_rows db, store_rows db == the rows of the three tables; a row is its
+--     number, then its columns
+--   version_told rows == the version that the rows of `store` tell: 1 exactly where there are none
+--   version_in db == that of the database
 --   project_entry r == the name and the file in a row of `project`
 --   result_entry r == the context and the tree in a row of `result`, and its value
---   IsProjectRow r == the number of the row is an integer, its name is a text and the name of a project, its file is a blob
---   IsResultRow r == the number of the row is an integer; its context, tree and value are blobs
 --   named v == the text of the value, where it is the name of a project
 --   shown_name r == the name that the row of an answer shows, where it is the name of a project
---   shown_text r, shown_pair r == the bytes of the first column that the row of an answer shows, and of the first two
+--   shown_text r, shown_pair r == the bytes of the first column that the row of an answer shows, and
+--     of the first two
+--   IsProjectRow r == the number of the row is an integer, its name is a text and the name of a
+--     project, its file is a blob
+--   IsResultRow r == the number of the row is an integer; its context, tree and value are blobs
 --   projects_in db, results_in db == the finite maps that the rows make
---   AreProjects rows == they are such rows of `project` in the order of their numbers, and no name comes twice
---   AreResults rows == they are such rows of `result` in the order of their numbers, and no pair of a context and a tree comes twice
+--   AreProjects rows == they are such rows of `project` in the order of their numbers, and no name
+--     comes twice
+--   AreResults rows == they are such rows of `result` in the order of their numbers, and no pair of a
+--     context and a tree comes twice
 --   IsStoreUnder s db == the database has the schema s, and its rows of the two tables are such rows
 --   IsStore db == the same with the tables of the store
 use Rattle.std.specs.Prelude.{◌≡◌, ℕ, true, List, [], ◌∷◌, map, All, Option, Some, None, if◌then◌else◌}

@@ -3,15 +3,17 @@
 --   has_schema schema == it is that of the tables of the store
 --   is_text v, is_blob v == what the value is
 --   ascends r xs == r holds of each element and each later one
+--   is_project_row r, is_result_row r == tests for IsProjectRow and IsResultRow
 --   in_order rows == the numbers of the rows rise
---   is_project_row r, is_result_row r, is_store db == tests for IsProjectRow, IsResultRow and IsStore
+--   is_store db == a test for IsStore
 --   kept_in db == what the database holds: its version, the projects and the rows of results
 --   opened db == what a keeper makes of it: of version 2 also where there are no results
---   first_version db == the version of a store that had no table `store`: 1 exactly where it has results
---   opened_first db == what a keeper makes of it
+--   first_version db == the version of a store that has no table `store`: 1 exactly where it has
+--     results
+--   opened_first db == what a keeper makes of such a store
 --   version_of is_old == the version of a keeper that says whether it is 1
---   told_of is_steady is_old db == what the database holds, over a store that is clean and open at all times, where the database is a
---     store of the keeper's version
+--   told_of is_steady is_old db == what the database holds, over a store that is clean and open at
+--     all times, where the database is a store of the keeper's version
 use Rattle.std.specs.Prelude.{ℕ, nat_lt, length, Bool, true, false, not, ◌&&◌, ◌==◌, List, [], ◌∷◌, map, Option, Some, None, if◌then◌else◌}
 use Rattle.std.specs.List.{list_all}
 use Rattle.std.specs.Ordering.{is_lt, eq_by_cmp}
@@ -62,10 +64,13 @@ ascends r [] = true
 ascends r (x ∷ xs) = list_all (r x) xs && ascends r xs
 
 abbrev pub is_project_row : Row → Bool
-is_project_row r = is_int (rowid r) && (is_text (column r 1) && (is_project_name (bytes (column r 1)) && is_blob (column r 2)))
+is_project_row r =
+    is_int (rowid r)
+    && (is_text (column r 1) && (is_project_name (bytes (column r 1)) && is_blob (column r 2)))
 
 abbrev pub is_result_row : Row → Bool
-is_result_row r = is_int (rowid r) && (is_blob (column r 1) && (is_blob (column r 2) && is_blob (column r 3)))
+is_result_row r =
+    is_int (rowid r) && (is_blob (column r 1) && (is_blob (column r 2) && is_blob (column r 3)))
 
 abbrev pub in_order : List Row → Bool
 in_order = ascends (λ a b. is_lt (value_cmp (rowid a) (rowid b)))
@@ -101,4 +106,6 @@ abbrev pub version_of : Bool → ℕ
 version_of is_old = if is_old then 1 else 2
 
 abbrev pub told_of : Bool → Bool → Database → Option Kept
-told_of is_steady is_old db = if is_steady && (version_in db == version_of is_old && is_store db) then Some (kept_in db) else None
+told_of is_steady is_old db =
+    if is_steady && (version_in db == version_of is_old && is_store db) then Some (kept_in db)
+    else None

@@ -15,7 +15,8 @@ pub fn query<S: Alter>(
     params: &[ValueRef<'_>],
 ) -> Result<Vec<Row>, Error>
     ensures shown { HasCleanDisk (state S.Store conn.new)
-        → IfOk result (λ rows. Shown text.now (bound params.now) (state S.Store conn.old) (state S.Store conn.new) rows.items) }
+        → IfOk result (λ rows. Shown text.now (bound params.now)
+        (state S.Store conn.old) (state S.Store conn.new) rows.items) }
     ensures err { FailsAlone (state S.Store conn.old) (state S.Store conn.new) result }
 {
     if !conn.is_autocommit() {
@@ -31,7 +32,8 @@ pub fn execute<S: Alter>(
     params: &[ValueRef<'_>],
 ) -> Result<usize, Error>
     ensures runs { HasCleanDisk (state S.Store conn.new)
-        → IfOk result (λ count. Executes text.now (bound params.now) (state S.Store conn.old) (state S.Store conn.new) (Ok count)) }
+        → IfOk result (λ count. Executes text.now (bound params.now)
+        (state S.Store conn.old) (state S.Store conn.new) (Ok count)) }
     ensures err { FailsAlone (state S.Store conn.old) (state S.Store conn.new) result }
 {
     if !conn.is_autocommit() {

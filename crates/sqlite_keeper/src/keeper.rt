@@ -32,10 +32,12 @@ fn prepare<S: Steady>(conn: &mut Connection<S>) -> Result<bool, Error>
         → IfOk result (λ is_old. (version_of is_old ≡ 2)
         × HasTables nothing_kept (state S.Store conn.new).now) }
     ensures grown { S.is_steady ≡ true → IsStoreUnder first_schema (state S.Store conn.old).now
-        → IfOk result (λ is_old. HasTables (opened_first (state S.Store conn.old).now) (state S.Store conn.new).now
+        → IfOk result (λ is_old.
+        HasTables (opened_first (state S.Store conn.old).now) (state S.Store conn.new).now
         × (first_version (state S.Store conn.old).now ≡ version_of is_old)) }
     ensures there { S.is_steady ≡ true → IsStore (state S.Store conn.old).now
-        → IfOk result (λ is_old. Opens is_old (state S.Store conn.old).now (state S.Store conn.new).now) }
+        → IfOk result (λ is_old.
+        Opens is_old (state S.Store conn.old).now (state S.Store conn.new).now) }
 {
     make_tables(conn)?;
     is_old(conn)

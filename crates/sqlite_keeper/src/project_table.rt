@@ -5,11 +5,11 @@ ghost use Rattle.std.specs.List.{filter_map};
 ghost use Rattle.std.specs.FinMap.{get, contains_key, len};
 ghost use Rattle.sqlite.specs.State.{HasCleanDisk};
 ghost use Rattle.sqlite.specs.Held.{state};
-ghost use Rattle.sqlite.specs.Order.{column, bytes};
+ghost use Rattle.sqlite.specs.Order.{column};
 ghost use Rattle.sqlite.specs.declared.types.Value.TheVariants.{Int};
 ghost use Rattle.result_keeper.specs.Entries.{file_bytes};
 ghost use Rattle.result_keeper.specs.Kept.{most_projects, put_answer, names_of, without_project, after_put};
-ghost use Rattle.sqlite_keeper.specs.Tables.{IsStore, projects_in, shown_name};
+ghost use Rattle.sqlite_keeper.specs.Tables.{IsStore, projects_in, shown_name, shown_text};
 ghost use Rattle.sqlite_keeper.specs.Told.{kept_in};
 ghost use Rattle.sqlite_keeper.specs.Changes.{HasTables, RunsWithin, IsRead, AnswersBy, Turns, TurnsWithin, FailsAlone};
 
@@ -34,7 +34,8 @@ const MOST_PROJECTS: i64 = 10_000;
 
 // The rows with the file of a project: one at most.
 fn rows_named<S: Alter>(conn: &mut Connection<S>, name: &ProjectName) -> Result<Vec<Row>, Error>
-    ensures rows { AnswersBy (λ k rows. option_map (λ r. bytes (column r 0)) (slice_get rows.items 0) ≡ get k.projects name.now)
+    ensures rows { AnswersBy
+        (λ k rows. option_map shown_text (slice_get rows.items 0) ≡ get k.projects name.now)
         (state S.Store conn.old) (state S.Store conn.new) result }
     ensures stays { IsRead (state S.Store conn.old) (state S.Store conn.new) }
 {
@@ -42,7 +43,7 @@ fn rows_named<S: Alter>(conn: &mut Connection<S>, name: &ProjectName) -> Result<
 }
 
 fn first_blob(rows: &[Row]) -> Result<Option<Vec<u8>>, Error>
-    ensures { IfOk result (λ file. file_bytes file ≡ option_map (λ r. bytes (column r 0)) (slice_get rows.now 0)) }
+    ensures { IfOk result (λ file. file_bytes file ≡ option_map shown_text (slice_get rows.now 0)) }
 {
     match rows.first() {
         Some(row) => Ok(Some(row.get(0)?)),
@@ -72,12 +73,15 @@ pub fn has_row(rows: &[Row]) -> bool
 // Whether a file is kept under a name.
 fn is_kept<S: Alter>(tx: &mut Transaction<'_, S>, name: &ProjectName) -> Result<bool, Error>
     ensures same_reference { tx.new.conn.ghost_name ≡ tx.old.conn.ghost_name }
-    ensures clean { HasCleanDisk (state S.Store tx.new.conn.now) → HasCleanDisk (state S.Store tx.old.conn.now) }
+    ensures clean { HasCleanDisk (state S.Store tx.new.conn.now)
+        → HasCleanDisk (state S.Store tx.old.conn.now) }
     ensures kept { AnswersBy (λ k kept. kept ≡ contains_key k.projects name.now)
         (state S.Store tx.old.conn.now) (state S.Store tx.new.conn.now) result }
-    ensures stays { HasCleanDisk (state S.Store tx.new.conn.now) → IsStore (state S.Store tx.old.conn.now).now
+    ensures stays { HasCleanDisk (state S.Store tx.new.conn.now)
+        → IsStore (state S.Store tx.old.conn.now).now
         → OnOk result ((state S.Store tx.new.conn.now).now ≡ (state S.Store tx.old.conn.now).now) }
-    ensures within { IsStore (state S.Store tx.old.conn.now).now → RunsWithin (state S.Store tx.old.conn.now) (state S.Store tx.new.conn.now) result }
+    ensures within { IsStore (state S.Store tx.old.conn.now).now
+        → RunsWithin (state S.Store tx.old.conn.now) (state S.Store tx.new.conn.now) result }
 {
     let rows = tx.query_all(SELECT_FILE, &[ValueRef::Text(name.bytes())])?;
     Ok(has_row(&rows))
@@ -103,12 +107,15 @@ fn are_most(count: i64) -> bool
 // Whether as many projects are kept as a keeper takes.
 fn is_full<S: Alter>(tx: &mut Transaction<'_, S>) -> Result<bool, Error>
     ensures same_reference { tx.new.conn.ghost_name ≡ tx.old.conn.ghost_name }
-    ensures clean { HasCleanDisk (state S.Store tx.new.conn.now) → HasCleanDisk (state S.Store tx.old.conn.now) }
+    ensures clean { HasCleanDisk (state S.Store tx.new.conn.now)
+        → HasCleanDisk (state S.Store tx.old.conn.now) }
     ensures full { AnswersBy (λ k full. full ≡ nat_le most_projects (len k.projects))
         (state S.Store tx.old.conn.now) (state S.Store tx.new.conn.now) result }
-    ensures stays { HasCleanDisk (state S.Store tx.new.conn.now) → IsStore (state S.Store tx.old.conn.now).now
+    ensures stays { HasCleanDisk (state S.Store tx.new.conn.now)
+        → IsStore (state S.Store tx.old.conn.now).now
         → OnOk result ((state S.Store tx.new.conn.now).now ≡ (state S.Store tx.old.conn.now).now) }
-    ensures within { IsStore (state S.Store tx.old.conn.now).now → RunsWithin (state S.Store tx.old.conn.now) (state S.Store tx.new.conn.now) result }
+    ensures within { IsStore (state S.Store tx.old.conn.now).now
+        → RunsWithin (state S.Store tx.old.conn.now) (state S.Store tx.new.conn.now) result }
 {
     let rows = tx.query_all(COUNT_PROJECTS, &[])?;
     let count = count_in(&rows)?;
@@ -132,9 +139,11 @@ fn put_of<S: Alter>(tx: &mut Transaction<'_, S>, name: &ProjectName) -> Result<P
     ensures same_reference { tx.new.conn.ghost_name ≡ tx.old.conn.ghost_name }
     ensures answer { AnswersBy (λ k put. put ≡ put_answer k.projects name.now)
         (state S.Store tx.old.conn.now) (state S.Store tx.new.conn.now) result }
-    ensures stays { HasCleanDisk (state S.Store tx.new.conn.now) → IsStore (state S.Store tx.old.conn.now).now
+    ensures stays { HasCleanDisk (state S.Store tx.new.conn.now)
+        → IsStore (state S.Store tx.old.conn.now).now
         → OnOk result ((state S.Store tx.new.conn.now).now ≡ (state S.Store tx.old.conn.now).now) }
-    ensures within { IsStore (state S.Store tx.old.conn.now).now → RunsWithin (state S.Store tx.old.conn.now) (state S.Store tx.new.conn.now) result }
+    ensures within { IsStore (state S.Store tx.old.conn.now).now
+        → RunsWithin (state S.Store tx.old.conn.now) (state S.Store tx.new.conn.now) result }
 {
     let kept = is_kept(tx, name)?;
     let full = is_full(tx)?;
@@ -145,7 +154,8 @@ fn delete_file<S: Alter>(tx: &mut Transaction<'_, S>, name: &ProjectName) -> Res
     ensures same_reference { tx.new.conn.ghost_name ≡ tx.old.conn.ghost_name }
     ensures removed { TurnsWithin (without_project name.now)
         (state S.Store tx.old.conn.now) (state S.Store tx.new.conn.now) result }
-    ensures within { RunsWithin (state S.Store tx.old.conn.now) (state S.Store tx.new.conn.now) result }
+    ensures within { RunsWithin
+        (state S.Store tx.old.conn.now) (state S.Store tx.new.conn.now) result }
 {
     tx.execute(DELETE_PROJECT, &[ValueRef::Text(name.bytes())])
 }
@@ -159,7 +169,8 @@ fn insert_file<S: Alter>(
     ensures added { contains_key (projects_in (state S.Store tx.old.conn.now).now) name.now ≡ false
         → TurnsWithin (after_put Put.Added name.now file.now)
         (state S.Store tx.old.conn.now) (state S.Store tx.new.conn.now) result }
-    ensures within { RunsWithin (state S.Store tx.old.conn.now) (state S.Store tx.new.conn.now) result }
+    ensures within { RunsWithin
+        (state S.Store tx.old.conn.now) (state S.Store tx.new.conn.now) result }
 {
     tx.execute(
         INSERT_PROJECT,
@@ -176,7 +187,8 @@ fn replace_file<S: Alter>(
     ensures same_reference { tx.new.conn.ghost_name ≡ tx.old.conn.ghost_name }
     ensures put { TurnsWithin (after_put Put.Replaced name.now file.now)
         (state S.Store tx.old.conn.now) (state S.Store tx.new.conn.now) result }
-    ensures within { RunsWithin (state S.Store tx.old.conn.now) (state S.Store tx.new.conn.now) result }
+    ensures within { RunsWithin
+        (state S.Store tx.old.conn.now) (state S.Store tx.new.conn.now) result }
 {
     delete_file(tx, name)?;
     insert_file(tx, name, file)
@@ -191,10 +203,13 @@ fn put_within<S: Alter>(
     ensures answer { AnswersBy (λ k put. put ≡ put_answer k.projects name.now)
         (state S.Store tx.old.conn.now) (state S.Store tx.new.conn.now) result }
     ensures put { HasCleanDisk (state S.Store tx.new.conn.now)
-        → IsTrue (state S.Store tx.old.conn.now).in_transaction → IsStore (state S.Store tx.old.conn.now).now
-        → IfOk result (λ put. HasTables (after_put put name.now file.now (kept_in (state S.Store tx.old.conn.now).now))
+        → IsTrue (state S.Store tx.old.conn.now).in_transaction
+        → IsStore (state S.Store tx.old.conn.now).now
+        → IfOk result (λ put. HasTables
+        (after_put put name.now file.now (kept_in (state S.Store tx.old.conn.now).now))
         (state S.Store tx.new.conn.now).now) }
-    ensures within { IsStore (state S.Store tx.old.conn.now).now → RunsWithin (state S.Store tx.old.conn.now) (state S.Store tx.new.conn.now) result }
+    ensures within { IsStore (state S.Store tx.old.conn.now).now
+        → RunsWithin (state S.Store tx.old.conn.now) (state S.Store tx.new.conn.now) result }
 {
     let put = put_of(tx, name)?;
     if put == Put::Full {
@@ -204,7 +219,7 @@ fn put_within<S: Alter>(
     Ok(put)
 }
 
-// Keeps a file under a name, unless the name is new and there are as many projects as a keeper takes.
+// Keeps a file under a name, unless the name is new and as many are kept as a keeper takes.
 pub fn keep_file<S: Alter>(
     conn: &mut Connection<S>,
     name: &ProjectName,
@@ -213,9 +228,11 @@ pub fn keep_file<S: Alter>(
     ensures answer { AnswersBy (λ k put. put ≡ put_answer k.projects name.now)
         (state S.Store conn.old) (state S.Store conn.new) result }
     ensures put { HasCleanDisk (state S.Store conn.new) → IsStore (state S.Store conn.old).now
-        → IfOk result (λ put. HasTables (after_put put name.now file.now (kept_in (state S.Store conn.old).now))
+        → IfOk result (λ put. HasTables
+        (after_put put name.now file.now (kept_in (state S.Store conn.old).now))
         (state S.Store conn.new).now) }
-    ensures err { HasCleanDisk (state S.Store conn.new) → IsTrue (state S.Store conn.new).is_open → IsStore (state S.Store conn.old).now
+    ensures err { HasCleanDisk (state S.Store conn.new) → IsTrue (state S.Store conn.new).is_open
+        → IsStore (state S.Store conn.old).now
         → OnErr result ((state S.Store conn.new).now ≡ (state S.Store conn.old).now) }
 {
     if !conn.is_autocommit() {
@@ -231,7 +248,8 @@ pub fn keep_file<S: Alter>(
 pub fn remove_file<S: Alter>(conn: &mut Connection<S>, name: &ProjectName) -> Result<bool, Error>
     ensures kept { AnswersBy (λ k kept. kept ≡ contains_key k.projects name.now)
         (state S.Store conn.old) (state S.Store conn.new) result }
-    ensures removed { Turns (without_project name.now) (state S.Store conn.old) (state S.Store conn.new) result }
+    ensures removed { Turns (without_project name.now)
+        (state S.Store conn.old) (state S.Store conn.new) result }
     ensures err { FailsAlone (state S.Store conn.old) (state S.Store conn.new) result }
 {
     let removed = execute(conn, DELETE_PROJECT, &[ValueRef::Text(name.bytes())])?;
@@ -258,7 +276,8 @@ fn named_rows<S: Alter>(conn: &mut Connection<S>) -> Result<Vec<Row>, Error>
 }
 
 fn push_name(names: &mut Vec<ProjectName>, row: &Row) -> Result<(), Error>
-    ensures { OnOk result (names.new.items ≡ names.old.items ++ filter_map shown_name (row.now ∷ [])) }
+    ensures { OnOk result
+        (names.new.items ≡ names.old.items ++ filter_map shown_name (row.now ∷ [])) }
 {
     match name_in(row)? {
         Some(name) => Ok(names.push(name)?),

@@ -108,7 +108,8 @@ fn delete_row<S: Alter>(
     ensures same_reference { tx.new.conn.ghost_name ≡ tx.old.conn.ghost_name }
     ensures removed { TurnsWithin (without_row context.now tree.now)
         (state S.Store tx.old.conn.now) (state S.Store tx.new.conn.now) result }
-    ensures within { RunsWithin (state S.Store tx.old.conn.now) (state S.Store tx.new.conn.now) result }
+    ensures within { RunsWithin
+        (state S.Store tx.old.conn.now) (state S.Store tx.new.conn.now) result }
 {
     tx.execute(
         DELETE_RESULT,
@@ -123,10 +124,12 @@ fn insert_row<S: Alter>(
     value: &[u8],
 ) -> Result<usize, Error>
     ensures same_reference { tx.new.conn.ghost_name ≡ tx.old.conn.ghost_name }
-    ensures added { contains_key (results_in (state S.Store tx.old.conn.now).now) (context.now, tree.now) ≡ false
+    ensures added { contains_key
+        (results_in (state S.Store tx.old.conn.now).now) (context.now, tree.now) ≡ false
         → TurnsWithin (with_rows context.now ((tree.now, value.now) ∷ []))
         (state S.Store tx.old.conn.now) (state S.Store tx.new.conn.now) result }
-    ensures within { RunsWithin (state S.Store tx.old.conn.now) (state S.Store tx.new.conn.now) result }
+    ensures within { RunsWithin
+        (state S.Store tx.old.conn.now) (state S.Store tx.new.conn.now) result }
 {
     tx.execute(
         INSERT_RESULT,
@@ -148,7 +151,8 @@ fn replace_row<S: Alter>(
     ensures same_reference { tx.new.conn.ghost_name ≡ tx.old.conn.ghost_name }
     ensures put { TurnsWithin (with_rows context.now ((tree.now, value.now) ∷ []))
         (state S.Store tx.old.conn.now) (state S.Store tx.new.conn.now) result }
-    ensures within { RunsWithin (state S.Store tx.old.conn.now) (state S.Store tx.new.conn.now) result }
+    ensures within { RunsWithin
+        (state S.Store tx.old.conn.now) (state S.Store tx.new.conn.now) result }
 {
     delete_row(tx, context, tree)?;
     insert_row(tx, context, tree, value)
@@ -162,7 +166,8 @@ fn put_each<S: Alter>(
     ensures same_reference { tx.new.conn.ghost_name ≡ tx.old.conn.ghost_name }
     ensures put { TurnsWithin (with_rows context.now (map pair_of rows.now))
         (state S.Store tx.old.conn.now) (state S.Store tx.new.conn.now) result }
-    ensures within { RunsWithin (state S.Store tx.old.conn.now) (state S.Store tx.new.conn.now) result }
+    ensures within { RunsWithin
+        (state S.Store tx.old.conn.now) (state S.Store tx.new.conn.now) result }
 {
     for row in rows {
         replace_row(tx, context, &row.tree, &row.value)?;

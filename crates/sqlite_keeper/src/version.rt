@@ -26,7 +26,8 @@ const MOVE_RESULTS: &str = "UPDATE result SET context = ?2 WHERE context = ?1";
 fn has_version<S: Steady>(conn: &mut Connection<S>) -> Result<bool, Error>
     ensures has { S.is_steady ≡ true → IsStore (state S.Store conn.old).now
         → IfOk result (λ has. (if has then 2 else 1) ≡ version_in (state S.Store conn.old).now) }
-    ensures stays { S.is_steady ≡ true → IsStill (state S.Store conn.old).now (state S.Store conn.new).now }
+    ensures stays { S.is_steady ≡ true
+        → IsStill (state S.Store conn.old).now (state S.Store conn.new).now }
 {
     let rows = query(conn, SELECT_VERSION, &[])?;
     Ok(has_row(&rows))
@@ -35,7 +36,8 @@ fn has_version<S: Steady>(conn: &mut Connection<S>) -> Result<bool, Error>
 fn has_results<S: Steady>(conn: &mut Connection<S>) -> Result<bool, Error>
     ensures has { S.is_steady ≡ true → IsStore (state S.Store conn.old).now
         → IfOk result (λ has. has ≡ nat_lt 0 (length (result_rows (state S.Store conn.old).now))) }
-    ensures stays { S.is_steady ≡ true → IsStill (state S.Store conn.old).now (state S.Store conn.new).now }
+    ensures stays { S.is_steady ≡ true
+        → IsStill (state S.Store conn.old).now (state S.Store conn.new).now }
 {
     let rows = query(conn, COUNT_RESULTS, &[])?;
     let count = count_in(&rows)?;
@@ -50,7 +52,8 @@ fn are_some(count: i64) -> bool
 
 fn put_version<S: Steady>(conn: &mut Connection<S>) -> Result<(), Error>
     ensures { S.is_steady ≡ true → IsStore (state S.Store conn.old).now
-        → OnOk result (HasTables (in_version_2 (kept_in (state S.Store conn.old).now)) (state S.Store conn.new).now) }
+        → OnOk result (HasTables
+        (in_version_2 (kept_in (state S.Store conn.old).now)) (state S.Store conn.new).now) }
 {
     execute(conn, INSERT_VERSION, &[])?;
     Ok(())
@@ -59,7 +62,8 @@ fn put_version<S: Steady>(conn: &mut Connection<S>) -> Result<(), Error>
 // Whether the store has results and no version. One that has neither is made one of version 2.
 pub fn is_old<S: Steady>(conn: &mut Connection<S>) -> Result<bool, Error>
     ensures { S.is_steady ≡ true → IsStore (state S.Store conn.old).now
-        → IfOk result (λ is_old. Opens is_old (state S.Store conn.old).now (state S.Store conn.new).now) }
+        → IfOk result (λ is_old.
+        Opens is_old (state S.Store conn.old).now (state S.Store conn.new).now) }
 {
     if has_version(conn)? {
         return Ok(false);
@@ -74,10 +78,12 @@ pub fn is_old<S: Steady>(conn: &mut Connection<S>) -> Result<bool, Error>
 fn move_context<S: Alter>(tx: &mut Transaction<'_, S>, pair: &ContextPair) -> Result<usize, Error>
     ensures same_reference { tx.new.conn.ghost_name ≡ tx.old.conn.ghost_name }
     ensures moved { HasCleanDisk (state S.Store tx.new.conn.now)
-        → IsTrue (state S.Store tx.old.conn.now).in_transaction → HasResults (state S.Store tx.old.conn.now).now
+        → IsTrue (state S.Store tx.old.conn.now).in_transaction
+        → HasResults (state S.Store tx.old.conn.now).now
         → OnOk result (HasMoved (context_pair pair.now ∷ [])
         (state S.Store tx.old.conn.now).now (state S.Store tx.new.conn.now).now) }
-    ensures within { RunsWithin (state S.Store tx.old.conn.now) (state S.Store tx.new.conn.now) result }
+    ensures within { RunsWithin
+        (state S.Store tx.old.conn.now) (state S.Store tx.new.conn.now) result }
 {
     tx.execute(
         MOVE_RESULTS,
@@ -88,10 +94,12 @@ fn move_context<S: Alter>(tx: &mut Transaction<'_, S>, pair: &ContextPair) -> Re
 // Puts the rows of each old context under its new one.
 fn move_each<S: Alter>(tx: &mut Transaction<'_, S>, pairs: &[ContextPair]) -> Result<(), Error>
     ensures same_reference { tx.new.conn.ghost_name ≡ tx.old.conn.ghost_name }
-    ensures moved { CanMigrate (map context_pair pairs.now) (kept_in (state S.Store tx.old.conn.now).now)
+    ensures moved { CanMigrate (map context_pair pairs.now)
+        (kept_in (state S.Store tx.old.conn.now).now)
         → TurnsWithin (with_moved (map context_pair pairs.now))
         (state S.Store tx.old.conn.now) (state S.Store tx.new.conn.now) result }
-    ensures within { RunsWithin (state S.Store tx.old.conn.now) (state S.Store tx.new.conn.now) result }
+    ensures within { RunsWithin
+        (state S.Store tx.old.conn.now) (state S.Store tx.new.conn.now) result }
 {
     for pair in pairs {
         move_context(tx, pair)?;
@@ -103,7 +111,8 @@ fn put_version_within<S: Alter>(tx: &mut Transaction<'_, S>) -> Result<usize, Er
     ensures same_reference { tx.new.conn.ghost_name ≡ tx.old.conn.ghost_name }
     ensures put { TurnsWithin in_version_2
         (state S.Store tx.old.conn.now) (state S.Store tx.new.conn.now) result }
-    ensures within { RunsWithin (state S.Store tx.old.conn.now) (state S.Store tx.new.conn.now) result }
+    ensures within { RunsWithin
+        (state S.Store tx.old.conn.now) (state S.Store tx.new.conn.now) result }
 {
     tx.execute(INSERT_VERSION, &[])
 }
@@ -113,19 +122,23 @@ fn migrate_within<S: Alter>(
     pairs: &[ContextPair],
 ) -> Result<usize, Error>
     ensures same_reference { tx.new.conn.ghost_name ≡ tx.old.conn.ghost_name }
-    ensures migrated { CanMigrate (map context_pair pairs.now) (kept_in (state S.Store tx.old.conn.now).now)
+    ensures migrated { CanMigrate (map context_pair pairs.now)
+        (kept_in (state S.Store tx.old.conn.now).now)
         → TurnsWithin (migrated (map context_pair pairs.now))
         (state S.Store tx.old.conn.now) (state S.Store tx.new.conn.now) result }
-    ensures within { RunsWithin (state S.Store tx.old.conn.now) (state S.Store tx.new.conn.now) result }
+    ensures within { RunsWithin
+        (state S.Store tx.old.conn.now) (state S.Store tx.new.conn.now) result }
 {
     move_each(tx, pairs)?;
     put_version_within(tx)
 }
 
-// Puts the rows of each old context under its new one, and the version 2 into the store, or nothing.
+// Puts the rows of each old context under its new one, and the version into the store, or nothing.
 pub fn migrate<S: Alter>(conn: &mut Connection<S>, pairs: &[ContextPair]) -> Result<(), Error>
-    ensures migrated { CanMigrate (map context_pair pairs.now) (kept_in (state S.Store conn.old).now)
-        → Turns (migrated (map context_pair pairs.now)) (state S.Store conn.old) (state S.Store conn.new) result }
+    ensures migrated { CanMigrate (map context_pair pairs.now)
+        (kept_in (state S.Store conn.old).now)
+        → Turns (migrated (map context_pair pairs.now))
+        (state S.Store conn.old) (state S.Store conn.new) result }
     ensures err { FailsAlone (state S.Store conn.old) (state S.Store conn.new) result }
 {
     if !conn.is_autocommit() {
