@@ -20,7 +20,7 @@ use Rattle.result_keeper.specs.Told.{Becomes, Stays}
 use Rattle.sqlite_keeper.specs.Schema.{store_schema}
 use Rattle.sqlite_keeper.specs.Tables.{project_rows, result_rows, version_in, project_entry, IsProjectRow, IsResultRow, IsStore}
 use Rattle.sqlite_keeper.specs.Changes.{HasTables}
-use Rattle.sqlite_keeper.specs.Told.{same_code, has_schema, is_text, is_blob, ascends, is_project_row, is_result_row, is_store, kept_in, version_of, told_of}
+use Rattle.sqlite_keeper.specs.Told.{same_code, has_schema, is_text, is_blob, ascends, is_project_row, is_result_row, are_apart, is_store, kept_in, version_of, told_of}
 
 both_true : (a b : Bool) → (a && b) ≡ true → (a ≡ true) × (b ≡ true)
 both_true true b h = (refl, h)
@@ -150,7 +150,7 @@ store_is db h =
     let c = both_true (list_all is_result_row (result_rows db)) _ b.1 in
     let d = both_true (ascends below (project_rows db)) _ c.1 in
     let e = both_true (ascends below (result_rows db)) _ d.1 in
-    let f = both_true (ascends (λ x y. not (eq_by_cmp bytes_cmp x y)) (map (λ e. e.0) (map project_entry (project_rows db)))) _ e.1 in
+    let f = both_true (are_apart bytes_cmp (map project_entry (project_rows db))) _ e.1 in
     record {
       schema = schema_is db.schema a.0;
       projects = record {
@@ -173,7 +173,7 @@ is_a_store db is =
     (true_both (list_all is_result_row (result_rows db)) _ (are_all is_result_row IsResultRow is_result (result_rows db) (recursion_from_All IsResultRow (result_rows db) is.results.typed))
     (true_both (ascends below (project_rows db)) _ (is_table (project_rows db) is.projects.ordered)
     (true_both (ascends below (result_rows db)) _ (is_table (result_rows db) is.results.ordered)
-    (true_both (ascends (λ x y. not (eq_by_cmp bytes_cmp x y)) (map (λ e. e.0) (map project_entry (project_rows db)))) _ (is_distinct (eq_by_cmp bytes_cmp) _ is.projects.apart) (is_distinct (eq_by_cmp row_cmp) _ is.results.apart))))))
+    (true_both (are_apart bytes_cmp (map project_entry (project_rows db))) _ (is_distinct (eq_by_cmp bytes_cmp) _ is.projects.apart) (is_distinct (eq_by_cmp row_cmp) _ is.results.apart))))))
 
 -- ---- what is told
 

@@ -1,8 +1,8 @@
 -- The tables of the store, as the database understands their texts.
 --   has_table name schema == a table of the schema has this name
 --   no_schema == the schema of an empty database
---   project_table, result_table, store_table == the tables `project`, `result` and `store`; a row is
---     its number, then its columns
+--   project_table, result_table, store_table == the tables `project`, `result` and `store`; a row
+--     is its number, then its columns
 --   a_column name kind == a column of that name and kind, which takes no NULL
 --   first_schema == the schema that has the first two, as stores of version 1 were made
 --   store_schema == the schema that has these tables, made in this order

@@ -7,17 +7,17 @@
 --   result_entry r == the context and the tree in a row of `result`, and its value
 --   named v == the text of the value, where it is the name of a project
 --   shown_name r == the name that the row of an answer shows, where it is the name of a project
---   shown_text r, shown_pair r == the bytes of the first column that the row of an answer shows, and
---     of the first two
+--   shown_text r == the bytes of the first column that the row of an answer shows
+--   shown_pair r == those of the first two
 --   IsProjectRow r == the number of the row is an integer, its name is a text and the name of a
 --     project, its file is a blob
 --   IsResultRow r == the number of the row is an integer; its context, tree and value are blobs
 --   projects_in db, results_in db == the finite maps that the rows make
 --   AreProjects rows == they are such rows of `project` in the order of their numbers, and no name
 --     comes twice
---   AreResults rows == they are such rows of `result` in the order of their numbers, and no pair of a
---     context and a tree comes twice
---   IsStoreUnder s db == the database has the schema s, and its rows of the two tables are such rows
+--   AreResults rows == they are such rows of `result` in the order of their numbers, and no pair of
+--     a context and a tree comes twice
+--   IsStoreUnder s db == the database has the schema s, and its rows of the two tables are such
 --   IsStore db == the same with the tables of the store
 use Rattle.std.specs.Prelude.{◌≡◌, ℕ, true, List, [], ◌∷◌, map, All, Option, Some, None, if◌then◌else◌}
 use Rattle.std.specs.FinMap.{from_entries}

@@ -5,6 +5,7 @@
 --   ascends r xs == r holds of each element and each later one
 --   is_project_row r, is_result_row r == tests for IsProjectRow and IsResultRow
 --   in_order rows == the numbers of the rows rise
+--   are_apart c es == no key comes twice, by the order c
 --   is_store db == a test for IsStore
 --   kept_in db == what the database holds: its version, the projects and the rows of results
 --   opened db == what a keeper makes of it: of version 2 also where there are no results
@@ -17,6 +18,7 @@
 use Rattle.std.specs.Prelude.{ℕ, nat_lt, length, Bool, true, false, not, ◌&&◌, ◌==◌, List, [], ◌∷◌, map, Option, Some, None, if◌then◌else◌}
 use Rattle.std.specs.List.{list_all}
 use Rattle.std.specs.Ordering.{is_lt, eq_by_cmp}
+use Rattle.std.specs.declared.cmp.Ordering.{Ordering}
 use base.Stored.{Gv, gnil, gnum, gcons}
 use Rattle.sqlite.specs.declared.types.Value.{Value}
 use Rattle.sqlite.specs.declared.types.Value.TheVariants.{Null, Int, Real, Text, Blob}
@@ -75,6 +77,9 @@ is_result_row r =
 abbrev pub in_order : List Row → Bool
 in_order = ascends (λ a b. is_lt (value_cmp (rowid a) (rowid b)))
 
+abbrev pub are_apart : {K X : Type 0} → (K → K → Ordering) → List (K × X) → Bool
+are_apart c es = ascends (λ a b. not (eq_by_cmp c a b)) (map (λ e. e.0) es)
+
 unfoldable pub is_store : Database → Bool
 is_store db =
     has_schema db.schema
@@ -82,8 +87,8 @@ is_store db =
     && (list_all is_result_row (result_rows db)
     && (in_order (project_rows db)
     && (in_order (result_rows db)
-    && (ascends (λ a b. not (eq_by_cmp bytes_cmp a b)) (map (λ e. e.0) (map project_entry (project_rows db)))
-    && ascends (λ a b. not (eq_by_cmp row_cmp a b)) (map (λ e. e.0) (map result_entry (result_rows db))))))))
+    && (are_apart bytes_cmp (map project_entry (project_rows db))
+    && are_apart row_cmp (map result_entry (result_rows db)))))))
 
 abbrev pub kept_in : Database → Kept
 kept_in db = record { version = version_in db; projects = projects_in db; rows = results_in db }
