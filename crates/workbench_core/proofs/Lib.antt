@@ -1,3 +1,4 @@
+pub mod AnswerLemmas
 pub mod CompletedLemmas
 pub mod ComputeLemmas
 pub mod DetailLemmas

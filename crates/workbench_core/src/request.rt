@@ -38,9 +38,22 @@ impl<'a> Word<'a> {
 #[derive(Debug, Drop)]
 pub enum Request<'a> {
     /// `check FILE`: the check text of a file.
-    Check { file: Word<'a> },
+    Check {
+        file: Word<'a>,
+    },
+    /// `compute NAME`: the report of a project.
+    Compute {
+        name: Word<'a>,
+    },
     /// `trees NAME`: the tree list of a project.
-    Trees { name: Word<'a> },
+    Trees {
+        name: Word<'a>,
+    },
+    /// `detail NAME TREE`: all that is known of one tree of a project's types.
+    Detail {
+        name: Word<'a>,
+        tree: Word<'a>,
+    },
 }
 
 impl<'a> Request<'a> {
@@ -52,7 +65,8 @@ impl<'a> Request<'a> {
     {
         match self {
             Request::Check { file } => Vec::from_slice(alloc, &[file.as_str()]),
-            Request::Trees { name } => Vec::from_slice(alloc, &[name.as_str()]),
+            Request::Compute { name } | Request::Trees { name } | Request::Detail { name, .. } =>
+                Vec::from_slice(alloc, &[name.as_str()]),
         }
     }
 }
