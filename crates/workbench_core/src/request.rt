@@ -38,22 +38,13 @@ impl<'a> Word<'a> {
 #[derive(Debug, Drop)]
 pub enum Request<'a> {
     /// `check FILE`: the check text of a file.
-    Check {
-        file: Word<'a>,
-    },
+    Check { file: Word<'a> },
     /// `compute NAME`: the report of a project.
-    Compute {
-        name: Word<'a>,
-    },
+    Compute { name: Word<'a> },
     /// `trees NAME`: the tree list of a project.
-    Trees {
-        name: Word<'a>,
-    },
+    Trees { name: Word<'a> },
     /// `detail NAME TREE`: all that is known of one tree of a project's types.
-    Detail {
-        name: Word<'a>,
-        tree: Word<'a>,
-    },
+    Detail { name: Word<'a>, tree: Word<'a> },
 }
 
 impl<'a> Request<'a> {
