@@ -1,5 +1,4 @@
-//! What `trees` and `compute` answer for equations that people know and for files of examples/, and
-//! for files that they refuse.
+//! What `trees` answers for equations that people know and for files of examples/, and for files that it refuses.
 #![tactic(auto)]
 
 #[cfg(test)]
@@ -8,7 +7,5 @@ mod examples;
 mod known;
 #[cfg(test)]
 mod refused;
-#[cfg(test)]
-mod reports;
 #[cfg(test)]
 mod runs;
