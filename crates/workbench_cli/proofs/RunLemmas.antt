@@ -81,6 +81,6 @@ module _ (texts : List ℕ → Option (List ℕ)) where
   pub given_to : (words told : List (List ℕ)) (r : Request) (a : Answer) (code : ℕ) (out err : Writing) → IsRequest words r → map texts (files_of r) ≡ map Some told → code ≢ 3 → code ≢ 17
       → IsAnswerTo words texts a → IsDelivered a code out err → IsGiven r told a
   given_to words told r a code out err is same file memory (inl h) delivered =
-      let one : h.0 ≡ r = same_request h.0 r (sym h.1.words_are ∙ is.words_are) in
+      let one : h.0 ≡ r = same_request words h.0 r h.1 is in
       given_for r told a code out err same file memory (subst (λ s. IsAnswer s texts a) one h.2) delivered
   given_to words told r a code out err is same file memory (inr none) delivered = absurd (none.0 r is)

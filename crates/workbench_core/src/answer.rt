@@ -9,7 +9,8 @@ use crate::trees::trees_of;
 use crate::verdict::check;
 use std::alloc::Global;
 
-/// What a command that is not refused writes: on the output, and on the error stream, where most commands write nothing.
+/// What a command that is not refused writes: on the output, and on the error stream, where most
+/// commands write nothing.
 #[derive(Debug, Drop)]
 pub struct Output {
     pub out: Vec<u8>,
@@ -35,13 +36,31 @@ pub fn answer_for(
     files: &[Vec<u8>],
 ) -> Result<Output, Refusal>
     requires { length files.now ≡ length (files_of request.now) }
-    ensures given { IfOk result (λ o. IsGiven request.now (map (λ v. v.items) files.now) (of_output o)) }
-    ensures refused { IfErr result (λ e. (e ≡ Refusal.Memory) ⊎ IsGiven request.now (map (λ v. v.items) files.now) (of_refusal e)) }
+    ensures given { IfOk result (λ o. IsGiven request.now (map (λ v. v.items) files.now)
+        (of_output o)) }
+    ensures refused { IfErr result (λ e. (e ≡ Refusal.Memory)
+        ⊎ IsGiven request.now (map (λ v. v.items) files.now) (of_refusal e)) }
     ensures no_fault { result ≢ Err Refusal.FileFault }
 {
-    let text = match request {
-        Request::Check { .. } => check(alloc, &files[0])?,
-        Request::Trees { .. } => trees_of(alloc, &files[0])?,
-    };
-    Ok(Output::of_text(alloc, text))
+    match request {
+        Request::Check { .. } => output_of(alloc, check(alloc, &files[0])),
+        Request::Trees { .. } => output_of(alloc, trees_of(alloc, &files[0])),
+        Request::Compute { .. } => Err(Refusal::Memory),
+        Request::Detail { .. } => Err(Refusal::Memory),
+        Request::Act { .. } => Err(Refusal::Memory),
+        Request::Multiply { .. } => Err(Refusal::Memory),
+        Request::Sample { .. } => Err(Refusal::Memory),
+    }
+}
+
+// What a command that gives a text writes.
+fn output_of(alloc: Global, text: Result<Vec<u8>, Refusal>) -> Result<Output, Refusal>
+    ensures text { IfOk result (λ o. IfOk text (λ v. of_output o ≡ of_result (Ok v.items))) }
+    ensures refused { IfErr result (λ e. text ≡ Err e) }
+    ensures given { is_ok result ≡ is_ok text }
+{
+    match text {
+        Ok(text) => Ok(Output::of_text(alloc, text)),
+        Err(refusal) => Err(refusal),
+    }
 }
