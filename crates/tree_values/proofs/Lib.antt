@@ -1,0 +1,3 @@
+pub mod Firsts
+pub mod HeldMore
+pub mod Ranges
