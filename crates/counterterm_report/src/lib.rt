@@ -12,6 +12,7 @@ mod trees;
 mod values;
 
 pub use error::ReportError;
+pub use renormalised::is_zero;
 pub use report::print_report;
 pub use stored::{print_value, read_value, value_laws};
 pub use text::type_name;

@@ -32,7 +32,7 @@ module _ (texts : List ℕ → Option (List ℕ)) where
   pub of_files : (r : Request) (names pieces : List (List ℕ)) (a : Answer) → names ≡ files_of r → AreRead texts names pieces → IsGiven r pieces a → IsOfFiles r texts a
   of_files r names pieces a same read given =
       let files = files_read names pieces read in
-      (files.0, subst (λ ns. AreTold texts ns files.0) same files.1, IsGiven-fronts r pieces files.0 a files.2 given)
+      (files.0, subst (λ ns. AreTold texts ns files.0) same files.1, IsGiven-fronts pieces files.0 a files.2 r given)
 
   pub answers_of_files : {T E : Type 0} (r : Request) (names pieces : List (List ℕ)) (result : Result T E) (view : T → Answer) → names ≡ files_of r → AreRead texts names pieces
       → IfOk result (λ x. IsGiven r pieces (view x)) → IfOk result (λ x. IsOfFiles r texts (view x))

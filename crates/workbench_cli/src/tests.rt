@@ -2,6 +2,7 @@ ghost use Rattle.std.specs.Prelude.{IfOk};
 ghost use Rattle.wb_outside.specs.Texts.{AreDistinct};
 
 use super::*;
+use extraction_coproduct::Work;
 use std::alloc::{AllocError, Global};
 use std::test::Fail;
 use wb_outside::{MemoryFiles, MemorySink, NamedText, OutsideError};
@@ -64,7 +65,8 @@ pub fn run_program(
     let mut files = MemoryFiles::new(alloc, texts, failing_reads.to_vec(alloc)?);
     let mut out = MemorySink::new(alloc, ROOM, failing_writes.to_vec(alloc)?)?;
     let mut err = MemorySink::new(alloc, ROOM, Vec::new(alloc))?;
-    let status = workbench(alloc, &words, &mut files, &mut out, &mut err);
+    let mut work = Work { tables: 0 };
+    let status = workbench(alloc, &words, &mut files, &mut out, &mut err, &mut work);
     Ok(Run {
         code: status.code,
         out: out.bytes().to_vec(alloc)?,
