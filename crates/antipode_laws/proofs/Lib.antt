@@ -11,6 +11,7 @@ pub mod SameValues
 pub mod SizeLaws
 pub mod Solutions
 pub mod SomeTree
+pub mod SymbolsKept
 pub mod TreeSymbols
 pub mod UncutTerm
 pub mod VanishingTrees

@@ -4,4 +4,5 @@ pub mod Inheritance
 pub mod Runs
 pub mod Sameness
 pub mod Sizes
+pub mod Symbols
 pub mod Weighed

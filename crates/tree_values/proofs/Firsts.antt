@@ -38,17 +38,16 @@ module _ (past other : Quantity → Type 0) (to : (q : Quantity) → past q → 
 module _ (eq : Equation) (held : Plain → Option Weighed) (c : Plain → Weighed) (t : Plain) where
   range_at : (us : List Unknown) → AreInRange (IsDifferentialPast eq t) (quantities_at us) → AreInRange (IsPast eq held c t) (quantities_at us)
   range_at [] h = tt
-  range_at (u ∷ us) h = (h.0, h.1.0, range_at us h.1.1)
+  range_at (u ∷ us) h = (h.0, (h.1.0, range_at us h.1.1))
 
   first_at : (us : List Unknown) (q : Quantity) → IsFirstOf (IsDifferentialPast eq t) (quantities_at us) q → IsFirstOf (IsPast eq held c t) (quantities_at us) q
   first_at [] q h = absurd h
   first_at (u ∷ us) q (inl h) = inl h
-  first_at (u ∷ us) q (inr (no, inl h)) = inr (no, inl h)
-  first_at (u ∷ us) q (inr (no, inr h)) = inr (no, inr (h.0, first_at us q h.1))
+  first_at (u ∷ us) q (inr h) = inr (h.0, elim h.1 [ inl k ↦ inl k | inr k ↦ inr (k.0, first_at us q k.1) ])
 
   module _ (coefficients : IsPast eq held c t Extraction → ⊥) (mass : IsPast eq held c t Constant → ⊥) where
     pub in_range : AreInRange (IsDifferentialPast eq t) (quantities_at eq.unknowns) → IsInRange eq held c t
-    in_range h = (coefficients, mass, range_at eq.unknowns h)
+    in_range h = (coefficients, (mass, range_at eq.unknowns h))
 
     pub first_past : (q : Quantity) → IsFirstOf (IsDifferentialPast eq t) (quantities_at eq.unknowns) q → IsFirstPast eq held c t q
     first_past q h = inr (coefficients, inr (mass, first_at eq.unknowns q h))

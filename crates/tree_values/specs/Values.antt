@@ -6,8 +6,8 @@
 --       is the polynomial with the coefficients and the mass that c gives, and its differentials
 --   AreValuesOf eq held c ts vs == all quantities of the trees ts are in range, and vs are their
 --       values, in order
---   AreOver ty hs == the values hs that are held are polynomials over expectations of trees over the
---       types
+--   AreOver ty hs == the symbols of the values hs that are held are trees over the types, or
+--       expectations of such trees
 --   IsRefusedFor id first e == e names the tree with the number id and a quantity that is `first`;
 --       or memory is wanted
 --   IsListRefused eq held c pool ids e == e names the first of the trees with the numbers ids that
@@ -15,9 +15,9 @@
 --   IsKnownRefusal pool e == the number of the tree that e names is that of a tree of the pool
 --   of_antipode id e == the refusal e of an antipode or a constant, said of the tree with the number
 --       id
---   IsMoreHeld pool old new == new holds what old holds, and besides it only constants over old, up to
---       the order of their terms
-use Rattle.std.specs.Prelude.{◌≡◌, ◌<◌, ◌⊎◌, pos, List, [], ◌∷◌, length, Option, ⊤}
+--   IsMoreHeld ty held more == more holds what held holds, and besides it only constants over held,
+--       up to the order of their terms
+use Rattle.std.specs.Prelude.{◌≡◌, ◌<◌, ◌⊎◌, List, [], ◌∷◌, length, Option, ⊤}
 use Rattle.std.specs.List.{AllByRecursion}
 use Rattle.degree_numbers.specs.declared.types.Types.{Types}
 use Rattle.plain_trees.specs.Plain.{Plain}
@@ -34,14 +34,14 @@ use Rattle.elementary_diff.specs.Refusals.{given_denominator}
 use Rattle.elementary_diff.specs.Symmetry.{symmetry_of}
 use Rattle.counterterm_report.specs.declared.values.DiffValue.{DiffValue}
 use Rattle.counterterm_report.specs.declared.values.TreeValues.{TreeValues}
-use Rattle.counterterm_report.specs.Values.{IsValue}
 use Rattle.antipode_laws.specs.Weighed.{Weighed}
 use Rattle.antipode_laws.specs.Constants.{IsConstants}
+use Rattle.antipode_laws.specs.Symbols.{AreOverTypes}
 use Rattle.antipode_laws.specs.Sameness.{IsSameHeld, IsHeldValue}
 use Rattle.twisted_antipode.specs.declared.AntipodeError.{AntipodeError}
 use Rattle.twisted_antipode.specs.declared.AntipodeError.TheVariants as antipodes
 use Rattle.twisted_antipode.specs.declared.Quantity.TheVariants as parts
-use Rattle.twisted_antipode.specs.Held.{Held, held_over}
+use Rattle.twisted_antipode.specs.Held.{Held}
 use Rattle.twisted_antipode.specs.Values.{IsPolyOf}
 use Rattle.tree_values.specs.declared.quantity.Quantity.{Quantity}
 use Rattle.tree_values.specs.declared.quantity.Quantity.TheVariants.{Extraction, Antipode, Constant}
@@ -78,7 +78,7 @@ AreValuesOf eq held c (t ∷ ts) (v ∷ vs) = IsInRange eq held c t × IsValuesO
     AreValuesOf eq held c ts vs
 
 abbrev pub AreOver : Types → List Held → Type 0
-AreOver ty hs = AllByRecursion (λ h. IsValue ty (pos h.1.mass) h.1.terms) hs
+AreOver ty hs = AllByRecursion (λ h. AreOverTypes ty h.1.terms) hs
 
 abbrev pub IsRefusedFor : TreeId → (Quantity → Type 0) → ValuesError → Type 0
 IsRefusedFor id first (TooLarge tree q) = (tree ≡ id) × first q
@@ -90,10 +90,9 @@ IsListRefused eq held c pool ids (TooLarge tree q) = IsFirstRefused eq held c (t
     (tree_at pool tree.0) q
 IsListRefused eq held c pool ids Memory = ⊤
 
-abbrev pub IsMoreHeld : Content → List Held → List Held → Type 0
-IsMoreHeld pool old new = (c : Plain → Weighed) → IsConstants pool.types (held_over pool old) c →
-    (t : Plain) → HasTypes pool.types t → IsSameHeld (held_over pool old t) (held_over pool new t)
-    ⊎ IsHeldValue (held_over pool new t) (c t)
+abbrev pub IsMoreHeld : Types → (Plain → Option Weighed) → (Plain → Option Weighed) → Type 0
+IsMoreHeld ty held more = (c : Plain → Weighed) → IsConstants ty held c → (t : Plain) →
+    HasTypes ty t → IsSameHeld (held t) (more t) ⊎ IsHeldValue (more t) (c t)
 
 abbrev pub IsKnownRefusal : Content → ValuesError → Type 0
 IsKnownRefusal pool (TooLarge tree q) = tree.0 < length pool.trees

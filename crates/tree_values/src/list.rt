@@ -1,5 +1,5 @@
 // The values of several trees.
-ghost use Rattle.std.specs.Prelude.{◌≡◌, ◌<◌, ◌≤◌, length, IfOk, IfErr};
+ghost use Rattle.std.specs.Prelude.{◌≡◌, ◌<◌, ◌≤◌, ◌++◌, [], ◌∷◌, length, IfOk, IfErr, OnOk, IsOkUnless};
 ghost use Rattle.std.specs.List.{All};
 ghost use Rattle.plain_trees.specs.Plain.{Plain};
 ghost use Rattle.equations.specs.Accepted.{IsEquation};
@@ -50,11 +50,26 @@ pub fn all_values<'a>(
         IsListRefused eq.now (held_over tables.old.pool constants.old) c tables.old.pool ids.now
         e) }
     ensures refused { IfErr result (IsKnownRefusal tables.old.pool) }
-    ensures more { IsMoreHeld tables.new.pool constants.old constants.new }
+    ensures more { IsMoreHeld eq.now.types (held_over tables.old.pool constants.old)
+        (held_over tables.new.pool constants.new) }
     ensures held { AreHeldOver tables.new.pool constants.new }
     ensures grown { AreGrown tables.old tables.new }
     ensures count { work.old.tables ≤ work.new.tables }
 {
-    let _ = (alloc, eq, tables, constants, ids, work);
-    Err(ValuesError::Memory)
+    tables.laws();
+    let mut values = Items::new(alloc);
+    for id in ids {
+        let v = values_of(alloc, eq, tables, constants, *id, work)?;
+        put(&mut values, v)?;
+    }
+    Ok(values)
+}
+
+/// Puts the values of a tree behind others.
+fn put(values: &mut Items<TreeValues>, value: TreeValues) -> Result<(), ValuesError>
+    ensures put { OnOk result (values.new ≡ values.old ++ value ∷ []) }
+    ensures memory { IsOkUnless result ValuesError.Memory }
+{
+    values.push(value)?;
+    Ok(())
 }

@@ -1,7 +1,9 @@
 // The values of one tree.
-ghost use Rattle.std.specs.Prelude.{◌≡◌, ◌<◌, ◌≤◌, length, IfOk, IfErr};
+ghost use Rattle.std.specs.Prelude.{◌≡◌, ◌<◌, ◌≤◌, length, unsigned_abs, IfOk, IfErr};
 ghost use Rattle.std.specs.List.{All};
+ghost use Rattle.exact_sums.specs.Saturating.{overflow};
 ghost use Rattle.plain_trees.specs.Plain.{Plain};
+ghost use Rattle.symbol_polys.specs.View.{IsPoly};
 ghost use Rattle.equations.specs.Accepted.{IsEquation};
 ghost use Rattle.tree_pool.specs.Content.{tree_at};
 ghost use Rattle.cutting_sizes.specs.Bounds.{IsBounded};
@@ -20,6 +22,7 @@ use elementary_diff::symmetry;
 use equations::Equation;
 use extraction_coproduct::{Tables, Work};
 use std::alloc::Global;
+use symbol_polys::Poly;
 use tree_pool::TreeId;
 use twisted_antipode::{Constants, constant};
 
@@ -51,11 +54,33 @@ pub fn values_of<'a>(
         IsConstants eq.now.types (held_over tables.old.pool constants.old) c →
         IsRefusedFor id (IsFirstPast eq.now (held_over tables.old.pool constants.old) c
         (tree_at tables.old.pool id.0)) e) }
-    ensures more { IsMoreHeld tables.new.pool constants.old constants.new }
+    ensures more { IsMoreHeld eq.now.types (held_over tables.old.pool constants.old)
+        (held_over tables.new.pool constants.new) }
     ensures held { AreHeldOver tables.new.pool constants.new }
     ensures grown { AreGrown tables.old tables.new }
     ensures count { work.old.tables ≤ work.new.tables }
 {
-    let _ = (alloc, eq, tables, constants, id, work);
-    Err(ValuesError::Memory)
+    tables.laws();
+    let constant = match constant(alloc, tables, constants, id, work) {
+        Ok(constant) => constant,
+        Err(e) => return Err(ValuesError::of_antipode(id, e)),
+    };
+    let _ = mass_of(&constant);
+    let pool = tables.pool();
+    let differentials = differentials_of(alloc, eq, pool, id)?;
+    Ok(TreeValues {
+        tree: pool.plain(alloc, id)?,
+        degree: pool.degree(id),
+        symmetry: symmetry(pool, id),
+        constant,
+        differentials,
+    })
+}
+
+/// The mass of a polynomial, which is in range.
+fn mass_of(p: &Poly) -> i128
+    requires { IsPoly p.now }
+    ensures fits { unsigned_abs p.now.mass < overflow }
+{
+    p.mass
 }
