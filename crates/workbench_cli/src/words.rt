@@ -15,18 +15,21 @@ pub fn read_words(words: &[String]) -> Option<Request<'_>>
     ensures found { IfSome result (λ r. IsRequest (map string_bytes words.now) r) }
     ensures none { IfNone result (IsNoRequest (map string_bytes words.now)) }
 {
-    match words {
-        [command, operand] => read_two(command.as_str(), operand.as_str()),
-        [command, name, tree] => read_three(command.as_str(), name.as_str(), tree.as_str()),
-        [command, name, tree, table] => {
-            read_four(command.as_str(), name.as_str(), tree.as_str(), table.as_str())
-        }
-        [command, name, tree, table, last] => read_five(
-            command.as_str(),
-            name.as_str(),
-            tree.as_str(),
-            table.as_str(),
-            last.as_str(),
+    match words.len() {
+        2 => read_two(words[0].as_str(), words[1].as_str()),
+        3 => read_three(words[0].as_str(), words[1].as_str(), words[2].as_str()),
+        4 => read_four(
+            words[0].as_str(),
+            words[1].as_str(),
+            words[2].as_str(),
+            words[3].as_str(),
+        ),
+        5 => read_five(
+            words[0].as_str(),
+            words[1].as_str(),
+            words[2].as_str(),
+            words[3].as_str(),
+            words[4].as_str(),
         ),
         _ => None,
     }

@@ -63,3 +63,14 @@ asks_only_for words only found wrong r h =
     let e : Some r ≡ Some only = sym (request_found words r h) ∙ found in
     let same : r ≡ only = cc in
     wrong (subst IsAllowed same h.allowed)
+
+-- requests have two to five words
+pub count_of_words : (words : List (List ℕ)) (r : Request) → IsRequest words r → (2 ≤ length words) × (length words ≤ 5)
+count_of_words words (Check file) h = let is : length words ≡ 2 = ap length h.words_are in (omega arith, omega arith)
+count_of_words words (Compute name) h = let is : length words ≡ 2 = ap length h.words_are in (omega arith, omega arith)
+count_of_words words (Trees name) h = let is : length words ≡ 2 = ap length h.words_are in (omega arith, omega arith)
+count_of_words words (Detail name tree) h = let is : length words ≡ 3 = ap length h.words_are in (omega arith, omega arith)
+count_of_words words (Act name tree table false) h = let is : length words ≡ 4 = ap length h.words_are in (omega arith, omega arith)
+count_of_words words (Act name tree table true) h = let is : length words ≡ 5 = ap length h.words_are in (omega arith, omega arith)
+count_of_words words (Multiply name tree first second) h = let is : length words ≡ 5 = ap length h.words_are in (omega arith, omega arith)
+count_of_words words (Sample number) h = let is : length words ≡ 2 = ap length h.words_are in (omega arith, omega arith)

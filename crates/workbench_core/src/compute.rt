@@ -37,7 +37,7 @@ pub fn compute_of(alloc: Global, file: &[u8], work: &mut Work) -> Result<Compute
     ensures no_fault { result ≢ Err Refusal.FileFault }
     ensures count { work.old.tables ≤ work.new.tables }
 {
-    let _ = (alloc, file, work);
+    let _ = (alloc, file);
     Err(Refusal::Memory)
 }
 
@@ -51,6 +51,6 @@ pub fn report_of(alloc: Global, file: &[u8], work: &mut Work) -> Result<Reported
     ensures no_fault { result ≢ Err Refusal.FileFault }
     ensures count { work.old.tables ≤ work.new.tables }
 {
-    let _ = (alloc, file, work);
+    let _ = (alloc, file);
     Err(Refusal::Memory)
 }
