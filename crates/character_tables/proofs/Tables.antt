@@ -45,7 +45,7 @@ row_unique ty accepted r s h g e =
     let value : r.1 ≡ s.1 = number_exact r.1 s.1 both.1 in
     ap (λ (t : Plain). pair t r.1) tree ∙ ap (pair s.0) value
 
-rows_unique : (ty : Types) → AreTypes ty → (rs ss : List Row) → AllByRecursion (IsRow ty) rs → AllByRecursion (IsRow ty) ss → map (row_text ty) rs ≡ map (row_text ty) ss → rs ≡ ss
+pub rows_unique : (ty : Types) → AreTypes ty → (rs ss : List Row) → AllByRecursion (IsRow ty) rs → AllByRecursion (IsRow ty) ss → map (row_text ty) rs ≡ map (row_text ty) ss → rs ≡ ss
 rows_unique ty accepted [] [] h g e = refl
 rows_unique ty accepted [] (s ∷ ss) h g e = absurd cc
 rows_unique ty accepted (r ∷ rs) [] h g e = absurd cc
@@ -310,3 +310,11 @@ passes A B false h e = absurd cc
 pub fails : (A B : Type 0) (b : Bool) → MatchBool b A B → b ≡ false → B
 fails A B true h e = absurd cc
 fails A B false h e = h
+
+pub character_grown : (c d : Content) (rs : List CharacterRow) → IsGrown c d → IsCharacter c rs → IsCharacter d rs
+character_grown c d rs g h =
+    record {
+      known = known_grown c d rs g h.known;
+      ascending = subst (λ (qs : List Row). IsStrictlySortedBy tree_order (trees_in qs)) (sym (rows_grown c d rs g h.known)) h.ascending;
+      values = h.values;
+    }

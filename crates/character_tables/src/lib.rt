@@ -2,6 +2,7 @@
 #![tactic(auto)]
 
 mod error;
+mod laws;
 mod lines;
 mod numbers;
 mod reading;
@@ -10,5 +11,6 @@ mod table;
 mod trees;
 
 pub use error::{CharacterError, CharacterPart};
+pub use laws::{growth_laws, table_laws};
 pub use reading::read_table;
 pub use table::{Character, CharacterRow};
