@@ -5,13 +5,13 @@ pub mod Expectations
 pub mod IntegratedEdges
 pub mod Masses
 pub mod OtherTerms
+pub mod OverSymbols
 pub mod Parities
 pub mod RunLaws
 pub mod SameValues
 pub mod SizeLaws
 pub mod Solutions
 pub mod SomeTree
-pub mod SymbolsKept
 pub mod TreeSymbols
 pub mod UncutTerm
 pub mod VanishingTrees

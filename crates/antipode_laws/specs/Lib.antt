@@ -4,5 +4,4 @@ pub mod Inheritance
 pub mod Runs
 pub mod Sameness
 pub mod Sizes
-pub mod Symbols
 pub mod Weighed

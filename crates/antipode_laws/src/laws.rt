@@ -17,7 +17,6 @@ ghost use Rattle.antipode_laws.specs.Constants.{IsConstants, expectation_terms};
 ghost use Rattle.antipode_laws.specs.Inheritance.{has_some, is_decorated, has_odd, has_odd_sum};
 ghost use Rattle.antipode_laws.specs.Sameness.{AreSameValues, IsSameHeld, IsHeldValue};
 ghost use Rattle.antipode_laws.specs.Sizes.{IsWithinMass};
-ghost use Rattle.antipode_laws.specs.Symbols.{AreOverTypes};
 ghost use Rattle.antipode_laws.specs.Runs.{with_forest, quotient_sum, quotient_mass};
 
 /// There is a twisted antipode, and there are constants for whatever values are held: the
@@ -63,16 +62,6 @@ pub fn masses_bound_coefficients()
     ensures constants { (ty : Types) (held : Plain → Option Weighed) (c : Plain → Weighed) →
         ((t : Plain) (w : Weighed) → held t ≡ Some w → IsWithinMass w) → IsConstants ty held c →
         (t : Plain) → HasTypes ty t → IsWithinMass (c t) }
-{}
-
-/// The symbols of a value are trees over the types, or expectations of such trees, where those of
-/// each value that is held are.
-pub fn values_are_over_types()
-    ensures antipode { (ty : Types) (a : Plain → Weighed) → IsAntipode ty a → (t : Plain) →
-        HasTypes ty t → AreOverTypes ty (a t).terms }
-    ensures constants { (ty : Types) (held : Plain → Option Weighed) (c : Plain → Weighed) →
-        ((t : Plain) (w : Weighed) → HasTypes ty t → held t ≡ Some w → AreOverTypes ty w.terms) →
-        IsConstants ty held c → (t : Plain) → HasTypes ty t → AreOverTypes ty (c t).terms }
 {}
 
 /// No mass of the twisted antipode is 0, so one that is out of range makes the masses of all trees

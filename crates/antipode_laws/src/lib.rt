@@ -5,5 +5,5 @@ mod laws;
 
 pub use laws::{
     antipode_masses, constants_are_expectations, constants_may_be_held, masses_bound_coefficients,
-    solutions_are_unique, solutions_exist, sums_by_runs, values_are_over_types, vanishing_trees,
+    solutions_are_unique, solutions_exist, sums_by_runs, vanishing_trees,
 };

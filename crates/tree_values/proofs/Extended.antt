@@ -11,13 +11,12 @@ use Rattle.antipode_laws.specs.Antipode.{value_at}
 use Rattle.antipode_laws.specs.Constants.{expected, IsConstants}
 use Rattle.antipode_laws.specs.Sameness.{IsSameHeld, IsHeldValue}
 use Rattle.twisted_antipode.specs.Held.{Held, held_over, AreHeldOver, IsExtended}
-use Rattle.twisted_antipode.specs.Known.{AreWellHeld}
 use Rattle.twisted_antipode.proofs.KnownLaws.{held_grown}
-use Rattle.tree_values.specs.Values.{IsMoreHeld}
+use Rattle.twisted_antipode.proofs.SolutionLaws.{well_of}
 
-well_of : (c : Content) (hs : List Held) → AreHeldOver c hs → AreWellHeld c hs
-well_of c [] h = tt
-well_of c (k ∷ hs) h = (record { known = h.0.known; polynomial = h.0.polynomial; range = h.0.range }, well_of c hs h.1)
+-- more holds what held holds, and besides it only constants over held, up to the order of their terms
+abbrev pub IsMoreHeld : Types → (Plain → Option Weighed) → (Plain → Option Weighed) → Type 0
+IsMoreHeld ty held more = (c : Plain → Weighed) → IsConstants ty held c → (t : Plain) → HasTypes ty t → IsSameHeld (held t) (more t) ⊎ IsHeldValue (more t) (c t)
 
 -- a tree for which something is held
 found : (pool : Content) (hs : List Held) (k : Held) (t : Plain) → IsIn k hs → is_eq (tree_order (tree_at pool k.0) t) ≡ true → held_over pool hs t ≡ None → ⊥

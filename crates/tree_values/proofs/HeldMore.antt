@@ -13,7 +13,6 @@ use Rattle.antipode_laws.specs.Antipode.{are_in_range}
 use Rattle.antipode_laws.specs.Constants.{expected, IsConstants}
 use Rattle.antipode_laws.specs.Sameness.{AreSameValues, IsSameHeld, IsHeldValue}
 use Rattle.antipode_laws.proofs.SameValues.{same_solutions}
-use Rattle.antipode_laws.proofs.Solutions.{solution, is_solution}
 use Rattle.tree_pool.specs.Content.{Content, tree_at}
 use Rattle.counterterm_report.specs.declared.TreeValues.{TreeValues}
 use Rattle.twisted_antipode.specs.Values.{IsPolyOf}
@@ -22,7 +21,7 @@ use Rattle.tree_values.specs.declared.quantity.Quantity.{Quantity}
 use Rattle.tree_values.specs.declared.quantity.Quantity.TheVariants.{Extraction, Recentring, Antipode, Constant, Differential, Denominator}
 use Rattle.tree_values.specs.Quantities.{quantities}
 use Rattle.tree_values.specs.Ranges.{IsPast, IsFirstPast, IsInRange}
-use Rattle.tree_values.specs.Values.{IsValuesOf, IsMoreHeld}
+use Rattle.tree_values.specs.Values.{IsValuesOf}
 use Rattle.tree_values.proofs.Firsts.{range_same, first_same}
 use Rattle.tree_values.proofs.Ranges.{large_mass}
 
@@ -112,40 +111,3 @@ held_range c (k ∷ hs) t w h e =
       | true ↦ λ i. (let same : k.1 ≡ w = cc in subst (λ (u : Weighed). u.mass < overflow) same h.0.range)
       | false ↦ λ i. held_range c hs t w h.1 i
     ]) e
-
--- more is held
-held_itself : (o : Option Weighed) → IsSameHeld o o
-held_itself None = tt
-held_itself (Some w) = record { coefficients = λ m. refl; mass = refl }
-
-pub more_itself : (ty : Types) (held : Plain → Option Weighed) → IsMoreHeld ty held held
-more_itself ty held c solves t typed = inl (held_itself (held t))
-
-held_trans : (h k l : Option Weighed) → IsSameHeld h k → IsSameHeld k l → IsSameHeld h l
-held_trans None None None r s = tt
-held_trans None None (Some w) r s = absurd s
-held_trans None (Some v) l r s = absurd r
-held_trans (Some u) None l r s = absurd r
-held_trans (Some u) (Some v) None r s = absurd s
-held_trans (Some u) (Some v) (Some w) r s = same_trans u v w r s
-
-value_moved : (k l : Option Weighed) (w : Weighed) → IsHeldValue k w → IsSameHeld k l → IsHeldValue l w
-value_moved None l w h s = absurd h
-value_moved (Some u) None w h s = absurd s
-value_moved (Some u) (Some v) w h s = same_trans v u w (same_back u v s) h
-
-value_same : (k : Option Weighed) (v w : Weighed) → IsHeldValue k v → AreSameValues v w → IsHeldValue k w
-value_same None v w h s = absurd h
-value_same (Some u) v w h s = same_trans u v w h s
-
-joined : (h k l : Option Weighed) (v w : Weighed) → AreSameValues w v → IsSameHeld h k ⊎ IsHeldValue k v → IsSameHeld k l ⊎ IsHeldValue l w → IsSameHeld h l ⊎ IsHeldValue l v
-joined h k l v w same (inl r) (inl s) = inl (held_trans h k l r s)
-joined h k l v w same (inr r) (inl s) = inr (value_moved k l v r s)
-joined h k l v w same r (inr s) = inr (value_same l w v s same)
-
-pub more_trans : (ty : Types) (old mid new : Plain → Option Weighed) → IsMoreHeld ty old mid → IsMoreHeld ty mid new → IsMoreHeld ty old new
-more_trans ty old mid new first second c solves t typed =
-    let d = solution ty (expected ty) mid in
-    let also = is_solution ty (expected ty) mid in
-    let same = same_solutions c d (expected ty) ty old mid solves also (first c solves) in
-    joined (old t) (mid t) (new t) (c t) (d t) (same_back (c t) (d t) (same t typed)) (first c solves t typed) (second d also t typed)

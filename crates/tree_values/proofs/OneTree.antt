@@ -1,20 +1,25 @@
 -- The values of one tree, from its constant and its differentials.
-use Rattle.std.proofs.Common.{◌≡◌, ◌<◌, ◌≤◌, ◌⊎◌, ℕ, ℤ, inl, inr, true, false, unsigned_abs, List, length, refl, sym, ap, ◌∙◌, subst, arith, Option, None}
+use Rattle.std.proofs.Common.{◌≡◌, ◌<◌, ◌≤◌, ◌⊎◌, ℕ, ℤ, inl, inr, true, false, unsigned_abs, List, [], ◌∷◌, length, refl, sym, ap, ◌∙◌, subst, arith, Option, None}
 use Rattle.exact_sums.specs.Saturating.{overflow}
 use Rattle.degree_numbers.specs.declared.types.Types.{Types}
+use Rattle.std.specs.List.{All}
 use Rattle.equations.specs.declared.Equation.{Equation}
-use Rattle.plain_trees.specs.Plain.{Plain}
+use Rattle.equations.specs.declared.Unknown.{Unknown}
+use Rattle.plain_trees.specs.Plain.{Plain, IsSmall}
 use Rattle.plain_trees.specs.Degree.{HasTypes, degree_of}
 use Rattle.plain_trees.specs.View.{plain}
 use Rattle.symbol_polys.specs.declared.Poly.{Poly}
-use Rattle.symbol_polys.specs.View.{IsPoly}
+use Rattle.symbol_polys.specs.View.{terms_of, IsPoly}
 use Rattle.elementary_diff.specs.Symmetry.{symmetry_of}
 use Rattle.counterterm_report.specs.declared.TreeValues.{TreeValues}
+use Rattle.counterterm_report.specs.declared.DiffValue.{DiffValue}
+use Rattle.counterterm_report.specs.Values.{IsPrinted, IsTreeValues}
 use Rattle.tree_pool.specs.Content.{Content, IsPooled, tree_at}
 use Rattle.tree_pool.specs.declared.TreeId.{TreeId}
 use Rattle.antipode_laws.specs.Weighed.{Weighed}
 use Rattle.antipode_laws.specs.Constants.{IsConstants}
-use Rattle.twisted_antipode.specs.Held.{IsConstantRefused}
+use Rattle.twisted_antipode.specs.Held.{IsConstantRefused, AreOverExpectations}
+use Rattle.twisted_antipode.specs.Kinds.{AreTyped}
 use Rattle.twisted_antipode.specs.Values.{IsPolyOf}
 use Rattle.twisted_antipode.specs.declared.AntipodeError.{AntipodeError}
 use Rattle.twisted_antipode.specs.declared.AntipodeError.TheVariants as antipodes
@@ -29,6 +34,7 @@ use Rattle.tree_values.specs.Quantities.{quantities_at}
 use Rattle.tree_values.specs.Ranges.{IsDifferentialPast, IsPast, IsFirstOf, AreInRange, IsFirstPast, IsInRange}
 use Rattle.tree_values.specs.Values.{IsValuesOf, AreDifferentialsOf, IsRefusedFor, of_antipode}
 use Rattle.tree_values.proofs.Firsts.{in_range, first_past}
+use Rattle.tree_values.proofs.Printing.{poly_printed}
 use Rattle.tree_values.proofs.Ranges.{large_mass}
 
 pub typed_at : (c : Content) (ty : Types) (i : ℕ) → IsPooled c → c.types ≡ ty → i < length c.trees → HasTypes ty (tree_at c i)
@@ -82,3 +88,24 @@ module _ (eq : Equation) (ty : Types) (same : ty ≡ eq.types) (held : Plain →
 
   pub constant_refused : (id : TreeId) (e : AntipodeError) → IsConstantRefused ty held t e → IsRefusedFor id (IsFirstPast eq held c t) (of_antipode id e)
   constant_refused id e h = of_refused id e (subst (λ (u : Types). IsConstantRefused u held t e) same h)
+
+-- they can be printed
+each_unknown : (eq : Equation) (t : Plain) (us : List Unknown) (ds : List DiffValue) → AreDifferentialsOf eq t us ds → length ds ≡ length us
+each_unknown eq t [] [] h = refl
+each_unknown eq t [] (d ∷ ds) h = absurd h
+each_unknown eq t (u ∷ us) [] h = absurd h
+each_unknown eq t (u ∷ us) (d ∷ ds) h = let rest = each_unknown eq t us ds h.1 in omega (arith, rest)
+
+pub printed_values : (eq : Equation) (pool grown : Content) (i : ℕ) (v : TreeValues) → IsPooled pool → pool.types ≡ eq.types → i < length pool.trees → tree_at grown i ≡ tree_at pool i → plain v.tree ≡ tree_at grown i →
+    IsPoly v.constant → AreOverExpectations (terms_of v.constant.terms) → AreTyped pool.types (terms_of v.constant.terms) → AreDifferentialsOf eq (tree_at grown i) eq.unknowns v.differentials →
+    All (λ d. IsPrinted eq d.poly) v.differentials → IsTreeValues eq v
+printed_values eq pool grown i v pooled types lt at tree poly over typed differentials printed =
+    let kept = kept_at pool i pooled lt in
+    let is : plain v.tree ≡ tree_at pool i = tree ∙ at in
+    record {
+      types = subst (HasTypes eq.types) (sym is) (typed_at pool eq.types i pooled types lt);
+      small = subst IsSmall (sym is) kept.small;
+      constant = poly_printed eq.types eq.parameters v.constant.mass (terms_of v.constant.terms) poly over (subst (λ (u : Types). AreTyped u (terms_of v.constant.terms)) types typed);
+      differentials = printed;
+      each = each_unknown eq (tree_at grown i) eq.unknowns v.differentials differentials;
+    }

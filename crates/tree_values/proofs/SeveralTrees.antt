@@ -1,34 +1,32 @@
 -- The values of several trees, tree by tree.
 use Rattle.std.proofs.Common.{◌≡◌, ◌<◌, ◌≤◌, ◌+◌, ◌⊎◌, ℕ, inl, inr, List, [], ◌∷◌, ◌++◌, map, length, take, drop, get_or, refl, sym, ap, ◌∙◌, subst, arith, Option, Some}
-use Rattle.std.specs.List.{All, AllByRecursion}
+use Rattle.std.specs.List.{All}
 use Rattle.std.proofs.lemmas.List.{take_more, take_all, map-append}
 use Rattle.std.proofs.lemmas.Grind.{common_steps}
 use Rattle.exact_sums.specs.Saturating.{overflow}
 use Rattle.degree_numbers.specs.declared.types.Types.{Types}
 use Rattle.equations.specs.declared.Equation.{Equation}
-use Rattle.plain_trees.specs.Plain.{Plain, IsSmall}
+use Rattle.plain_trees.specs.Plain.{Plain}
 use Rattle.plain_trees.specs.Degree.{HasTypes}
-use Rattle.plain_trees.specs.View.{plain}
 use Rattle.tree_pool.specs.Content.{Content, IsGrown, IsPooled, tree_at, trees_of}
 use Rattle.tree_pool.specs.declared.TreeId.{TreeId}
 use Rattle.tree_pool.proofs.Growth.{grown_at}
-use Rattle.symbol_polys.specs.View.{terms_of}
 use Rattle.counterterm_report.specs.declared.TreeValues.{TreeValues}
-use Rattle.counterterm_report.specs.declared.DiffValue.{DiffValue}
-use Rattle.counterterm_report.specs.Values.{IsPrinted, IsTreeValues}
-use Rattle.equations.specs.declared.Unknown.{Unknown}
 use Rattle.antipode_laws.specs.Weighed.{Weighed}
 use Rattle.antipode_laws.specs.Constants.{expected, IsConstants}
 use Rattle.antipode_laws.proofs.Solutions.{solution, is_solution}
-use Rattle.twisted_antipode.specs.Held.{Held, held_over, AreHeldOver}
-use Rattle.twisted_antipode.proofs.Pooled.{kept_at}
+use Rattle.twisted_antipode.specs.Counts.{AreFinishedOver}
+use Rattle.twisted_antipode.specs.Held.{Held, held_over, AreHeldOver, IsExtended}
+use Rattle.extraction_coproduct.specs.Finished.{TablesContent}
+use Rattle.antipode_laws.proofs.OtherTerms.{member_of}
+use Rattle.ordered_lists.specs.Members.{IsIn}
+use Rattle.ordered_lists.proofs.Members.{in_map, member_at}
 use Rattle.tree_values.specs.declared.quantity.Quantity.{Quantity}
 use Rattle.tree_values.specs.declared.error.ValuesError.{ValuesError}
 use Rattle.tree_values.specs.declared.error.ValuesError.TheVariants.{TooLarge, Memory}
 use Rattle.tree_values.specs.Ranges.{IsFirstPast, IsInRange, IsFirstRefused}
-use Rattle.tree_values.specs.Values.{IsValuesOf, AreValuesOf, AreDifferentialsOf, AreOver, IsRefusedFor, IsListRefused, IsKnownRefusal, IsMoreHeld}
-use Rattle.tree_values.proofs.Expectations.{constants_over, poly_over}
-use Rattle.tree_values.proofs.Lists.{all_put}
+use Rattle.tree_values.specs.Values.{IsValuesOf, AreValuesOf, IsRefusedFor, IsListRefused, IsKnownRefusal}
+use Rattle.tree_values.proofs.Extended.{IsMoreHeld, more_held}
 use Rattle.tree_values.proofs.OneTree.{typed_at}
 use Rattle.tree_values.proofs.HeldMore.{held_range, in_range_before, first_before, values_before}
 
@@ -94,35 +92,17 @@ module _ (eq : Equation) (held more : Plain → Option Weighed) (extends : IsMor
   refused_at_start id (TooLarge tree q) h = let at = h over_more also in (at.0, first_before eq held more c over_more solves also (extends c solves) range t typed q at.1)
   refused_at_start id Memory h = tt
 
--- printing
-each_unknown : (eq : Equation) (t : Plain) (us : List Unknown) (ds : List DiffValue) → AreDifferentialsOf eq t us ds → length ds ≡ length us
-each_unknown eq t [] [] h = refl
-each_unknown eq t [] (d ∷ ds) h = absurd h
-each_unknown eq t (u ∷ us) [] h = absurd h
-each_unknown eq t (u ∷ us) (d ∷ ds) h = let rest = each_unknown eq t us ds h.1 in omega (arith, rest)
-
-pub printed_values : (eq : Equation) (pool : Content) (hs : List Held) (c : Plain → Weighed) (i : ℕ) (v : TreeValues) → IsPooled pool → pool.types ≡ eq.types → i < length pool.trees → AreOver eq.types hs →
-    IsConstants eq.types (held_over pool hs) c → IsValuesOf eq c (tree_at pool i) v → All (λ d. IsPrinted eq d.poly) v.differentials → IsTreeValues eq v
-printed_values eq pool hs c i v pooled types lt over solves h printed =
-    let kept = kept_at pool i pooled lt in
-    let typed : HasTypes eq.types (tree_at pool i) = subst (λ (u : Types). HasTypes u (tree_at pool i)) types kept.known in
-    record {
-      types = subst (HasTypes eq.types) (sym h.tree) typed;
-      small = subst IsSmall (sym h.tree) kept.small;
-      constant = poly_over eq.types eq.parameters v.constant.mass (terms_of v.constant.terms) (c (tree_at pool i)).terms h.polynomial h.constant.coefficients
-          (constants_over eq.types pool hs c over solves (tree_at pool i) typed);
-      differentials = printed;
-      each = each_unknown eq (tree_at pool i) eq.unknowns v.differentials h.differentials;
-    }
-
 -- one tree of the list, where the pool has grown and constants are held besides
-module _ (eq : Equation) (pool grown : Content) (old now : List Held) (types : pool.types ≡ eq.types) (pooled : IsPooled pool) (growth : IsGrown pool grown) (held : AreHeldOver grown now)
-    (more : IsMoreHeld eq.types (held_over pool old) (held_over grown now)) (ids : List TreeId) (known : All (λ id. id.0 < length pool.trees) ids) (i : ℕ) (id : TreeId) (lt : i < length ids) (is : id ≡ get_or ids i id) where
+module _ (eq : Equation) (pool grown : Content) (old now : List Held) (types : pool.types ≡ eq.types) (pooled : IsPooled pool) (growth : IsGrown pool grown) (before : AreHeldOver pool old) (held : AreHeldOver grown now)
+    (extended : IsExtended grown old now) (ids : List TreeId) (known : All (λ id. id.0 < length pool.trees) ids) (i : ℕ) (id : TreeId) (lt : i < length ids) (is : id ≡ get_or ids i id) where
   pub known_here : id.0 < length pool.trees
   known_here = subst (λ (j : TreeId). j.0 < length pool.trees) (sym is) (known i id lt)
 
   typed_here : HasTypes eq.types (tree_at pool id.0)
   typed_here = typed_at pool eq.types id.0 pooled types known_here
+
+  more : IsMoreHeld eq.types (held_over pool old) (held_over grown now)
+  more = more_held eq.types pool grown old now types growth before extended
 
   same_tree : tree_at grown id.0 ≡ tree_at pool id.0
   same_tree = grown_at pool grown id.0 growth known_here
@@ -141,21 +121,14 @@ module _ (eq : Equation) (pool grown : Content) (old now : List Held) (types : p
 
     pub next_values : (vs ws : List TreeValues) (v : TreeValues) → ws ≡ vs ++ v ∷ [] → AreValuesOf eq (held_over pool old) c (trees_of pool (take i ids)) vs →
         ((a : Plain → Weighed) → IsConstants eq.types (held_over grown now) a → Says v (tree_at grown id.0) a) → AreValuesOf eq (held_over pool old) c (trees_of pool (take (i + 1) ids)) ws
-    next_values vs ws v put before h = let both = at_start v h in values_next eq (held_over pool old) c pool ids i id vs ws v lt is put before both.0 both.1
+    next_values vs ws v put so_far h = let both = at_start v h in values_next eq (held_over pool old) c pool ids i id vs ws v lt is put so_far both.0 both.1
 
     pub first_refused : (vs : List TreeValues) (e : ValuesError) → AreValuesOf eq (held_over pool old) c (trees_of pool (take i ids)) vs →
         ((a : Plain → Weighed) → IsConstants eq.types (held_over grown now) a → IsRefusedFor id (IsFirstPast eq (held_over grown now) a (tree_at grown id.0)) e) → IsListRefused eq (held_over pool old) c pool ids e
-    first_refused vs e before h =
-        refused_here eq (held_over pool old) c pool ids i id vs e lt is before
+    first_refused vs e so_far h =
+        refused_here eq (held_over pool old) c pool ids i id vs e lt is so_far
         (refused_at_start eq (held_over pool old) (held_over grown now) more range c solves (tree_at pool id.0) typed_here id e
         (λ a also. subst (λ (t : Plain). IsRefusedFor id (IsFirstPast eq (held_over grown now) a t) e) same_tree (h a also)))
-
-  pub next_printed : (vs ws : List TreeValues) (v : TreeValues) → ws ≡ vs ++ v ∷ [] → AreOver eq.types old → All (IsTreeValues eq) vs → ((a : Plain → Weighed) → IsConstants eq.types (held_over grown now) a → Says v (tree_at grown id.0) a) →
-      All (λ d. IsPrinted eq d.poly) v.differentials → All (IsTreeValues eq) ws
-  next_printed vs ws v put over before h printed =
-      let c = solution eq.types (expected eq.types) (held_over pool old) in
-      let solves = is_solution eq.types (expected eq.types) (held_over pool old) in
-      all_put (IsTreeValues eq) vs ws v put before (printed_values eq pool old c id.0 v pooled types known_here over solves (at_start c solves v h).1 printed)
 
   named : (e : ValuesError) (first : Quantity → Type 0) → IsRefusedFor id first e → IsKnownRefusal pool e
   named (TooLarge tree q) first h = subst (λ (j : TreeId). j.0 < length pool.trees) (sym h.0) known_here
@@ -165,6 +138,13 @@ module _ (eq : Equation) (pool grown : Content) (old now : List Held) (types : p
   names_known e h =
       let a = solution eq.types (expected eq.types) (held_over grown now) in
       named e (IsFirstPast eq (held_over grown now) a (tree_at grown id.0)) (h a (is_solution eq.types (expected eq.types) (held_over grown now)))
+
+  -- what is finished for this tree is finished for one of the list
+  pub one_finished : (b c : TablesContent) → b.pool ≡ grown → AreFinishedOver b c now (tree_at b.pool id.0 ∷ []) → AreFinishedOver b c now (trees_of pool ids)
+  one_finished b c at h = λ ts has all.
+      let tree : tree_at b.pool id.0 ≡ tree_at pool id.0 = ap (λ (p : Content). tree_at p id.0) at ∙ same_tree in
+      let listed : IsIn (tree_at pool id.0) (trees_of pool ids) = in_map (λ (j : TreeId). tree_at pool j.0) id ids (member_at ids i id lt is) in
+      h ts (subst (λ (t : Plain). IsIn t ts) (sym tree) (member_of (λ (f : Plain). IsIn f ts) (trees_of pool ids) (tree_at pool id.0) has listed), tt) all
 
 -- the end of the list
 pub all_done : (eq : Equation) (held : Plain → Option Weighed) (c : Plain → Weighed) (pool : Content) (ids : List TreeId) (i : ℕ) (vs : List TreeValues) → length ids ≤ i →

@@ -1,5 +1,6 @@
 -- The quantities of a tree that a report or a detail asks for.
---   quantity_text ty q == the words for the quantity q; those of one at an unknown end with its name
+--   quantity_text ty q == the words for the quantity q; those of one at an unknown end with its
+--       name
 --   quantities_at us == the differential and then the denominator at each of the unknowns us
 --   quantities eq == what the report asks for each tree, in this order: the coefficients of its
 --       extraction coproduct, the mass of its constant, and those of each unknown

@@ -1,7 +1,7 @@
 -- Which quantities of a tree are out of range.
 --   IsDifferentialPast eq t q == q is a differential or a denominator of the tree t, and out of
---       range: the mass of the differential is; that mass is not 0 and in range, and the denominator
---       is not
+--       range: the mass of the differential is; that mass is not 0 and in range, and the
+--       denominator is not
 --   IsPast eq held c t q == the quantity q of the tree t is out of range, where c are the constants
 --       and a tree whose value is held is not asked for coefficients and constant. Recentring and
 --       antipode are no quantities of a report
@@ -9,8 +9,8 @@
 --   AreInRange past qs == none of them is
 --   IsFirstPast eq held c t q == q is the first quantity of the tree t that is out of range
 --   IsInRange eq held c t == no quantity of the tree t is
---   IsFirstRefused eq held c ts t q == t is the first of the trees ts with a quantity that is out of
---       range, and q is its first one
+--   IsFirstRefused eq held c ts t q == t is the first of the trees ts with a quantity that is out
+--       of range, and q is its first one
 use Rattle.std.specs.Prelude.{◌≡◌, ◌<◌, ◌≤◌, ◌⊎◌, ℕ, false, List, [], ◌∷◌, Option, None}
 use Rattle.std.specs.List.{AllByRecursion}
 use Rattle.exact_sums.specs.Saturating.{overflow}

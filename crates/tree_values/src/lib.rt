@@ -1,4 +1,4 @@
-//! What a report says of a tree: its constant, its symmetry factor, its differentials, each in range.
+//! What a report says of trees: their constants, symmetry factors and differentials, in range.
 #![tactic(auto)]
 
 mod differentials;

@@ -1,5 +1,5 @@
 // The values of several trees.
-ghost use Rattle.std.specs.Prelude.{◌≡◌, ◌<◌, ◌≤◌, ◌++◌, [], ◌∷◌, length, IfOk, IfErr, OnOk, IsOkUnless};
+ghost use Rattle.std.specs.Prelude.{◌≡◌, ◌<◌, ◌++◌, [], ◌∷◌, length, IfOk, IfErr, OnOk, IsOkUnless};
 ghost use Rattle.std.specs.List.{All};
 ghost use Rattle.plain_trees.specs.Plain.{Plain};
 ghost use Rattle.equations.specs.Accepted.{IsEquation};
@@ -9,8 +9,10 @@ ghost use Rattle.extraction_coproduct.specs.Finished.{AreGrown};
 ghost use Rattle.counterterm_report.specs.Values.{IsTreeValues};
 ghost use Rattle.antipode_laws.specs.Weighed.{Weighed};
 ghost use Rattle.antipode_laws.specs.Constants.{IsConstants};
-ghost use Rattle.twisted_antipode.specs.Held.{held_over, AreHeldOver};
-ghost use Rattle.tree_values.specs.Values.{AreValuesOf, AreOver, IsListRefused, IsKnownRefusal, IsMoreHeld};
+ghost use Rattle.twisted_antipode.specs.Counts.{IsCountOf, AreFinishedOver};
+ghost use Rattle.twisted_antipode.specs.Held.{held_over, AreHeldOver, IsExtended};
+ghost use Rattle.twisted_antipode.specs.Kinds.{AreHeldTyped};
+ghost use Rattle.tree_values.specs.Values.{AreValuesOf, IsListRefused, IsKnownRefusal};
 
 use crate::error::ValuesError;
 use crate::values::values_of;
@@ -39,7 +41,7 @@ pub fn all_values<'a>(
     requires known { All (λ id. id.0 < length tables.old.pool.trees) ids.now }
     requires bounded { All (λ id. IsBounded (tree_at tables.old.pool id.0)) ids.now }
     requires held { AreHeldOver tables.old.pool constants.old }
-    requires over { AreOver eq.now.types constants.old }
+    requires typed { AreHeldTyped eq.now.types constants.old }
     ensures values { IfOk result (λ vs. (c : Plain → Weighed) →
         IsConstants eq.now.types (held_over tables.old.pool constants.old) c →
         AreValuesOf eq.now (held_over tables.old.pool constants.old) c
@@ -50,17 +52,20 @@ pub fn all_values<'a>(
         IsListRefused eq.now (held_over tables.old.pool constants.old) c tables.old.pool ids.now
         e) }
     ensures refused { IfErr result (IsKnownRefusal tables.old.pool) }
-    ensures more { IsMoreHeld eq.now.types (held_over tables.old.pool constants.old)
-        (held_over tables.new.pool constants.new) }
+    ensures extended { IsExtended tables.new.pool constants.old constants.new }
     ensures held { AreHeldOver tables.new.pool constants.new }
+    ensures held_typed { AreHeldTyped eq.now.types constants.new }
     ensures grown { AreGrown tables.old tables.new }
-    ensures count { work.old.tables ≤ work.new.tables }
+    ensures counted { IsCountOf tables.old tables.new work.old.tables work.new.tables }
+    ensures finished { AreFinishedOver tables.old tables.new constants.old
+        (trees_of tables.old.pool ids.now) }
 {
     tables.laws();
     let mut values = Items::new(alloc);
     for id in ids {
-        let v = values_of(alloc, eq, tables, constants, *id, work)?;
-        put(&mut values, v)?;
+        let v = values_of(alloc, eq, tables, constants, *id, work);
+        tables.laws();
+        put(&mut values, v?)?;
     }
     Ok(values)
 }

@@ -7,9 +7,11 @@
 --   with_held hs i w == hs with the value w for the number i: in the place of that which was there, or behind the others
 --   IsHeld hs i == some value is held for the number i
 --   held_over c hs == the values that are held, by tree
+--   IsExpectation s == s is the expectation of a tree
 --   AreOverExpectations ts == all symbols of the terms ts are expectations
 --   AreHeldOver c hs == the numbers are those of trees of the pool, and the values are polynomials over expectations, with masses in range
---   IsExtended c old new == new holds what old holds, and besides it only constants of their trees; what it holds for a tree is the constant of the tree over old
+--   IsExtended c old new == new holds what old holds, and besides it only constants of their trees;
+--       what it holds for a tree is the constant of that tree over old
 --   IsAntipodeRefused, IsConstantRefused == why there is no antipode, no constant: a coefficient of the extraction coproduct is out of range, or the mass is
 use Rattle.std.specs.Prelude.{◌≡◌, ◌≤◌, ◌<◌, ◌⊎◌, ℕ, ◌==◌, true, false, if◌then◌else◌, unsigned_abs, pos, refl, List, [], ◌∷◌, map, length, Option, Some, None, ⊤}
 use Rattle.std.specs.Coded.{Coded, code_by, coded×, coded_list, coded_ℕ}
@@ -19,8 +21,8 @@ use Rattle.exact_sums.specs.Saturating.{overflow}
 use Rattle.ordered_lists.specs.Members.{IsIn}
 use Rattle.degree_numbers.specs.declared.types.Types.{Types}
 use Rattle.plain_trees.specs.Plain.{Plain, tree_order}
-use Rattle.plain_trees.specs.Degree.{HasTypes}
 use Rattle.plain_trees.specs.Coproducts.{extraction_terms}
+use Rattle.plain_trees.specs.Degree.{HasTypes}
 use Rattle.tree_pool.specs.Content.{Content, tree_at}
 use Rattle.tree_pool.specs.declared.TreeId.{TreeId}
 use Rattle.symbol_polys.specs.declared.poly.Poly.{Poly}
@@ -88,7 +90,9 @@ AreHeldOver c hs = AllByRecursion (IsHeldOver c) hs
 pub record IsExtended (c : Content) (old new : List Held) : Type 0 where
   pub kept : (h : Held) → IsIn h old → IsIn h new
   pub added : (a : Plain → Weighed) → IsConstants c.types (held_over c old) a → (h : Held) → IsIn h new → IsIn h old ⊎ AreSameValues h.1 (a (tree_at c h.0))
-  pub values : (a : Plain → Weighed) → IsConstants c.types (held_over c old) a → (t : Plain) (w : Weighed) → HasTypes c.types t → held_over c new t ≡ Some w → AreSameValues w (a t)
+  pub values : (a : Plain → Weighed) → IsConstants c.types (held_over c old) a →
+      (t : Plain) (w : Weighed) → HasTypes c.types t → held_over c new t ≡ Some w →
+      AreSameValues w (a t)
 
 abbrev pub IsAntipodeRefused : Types → Plain → AntipodeError → Type 0
 IsAntipodeRefused ty t Memory = ⊤

@@ -1,5 +1,6 @@
 // The report of an equation file.
-ghost use Rattle.std.specs.Prelude.{◌≡◌, ◌≢◌, ◌⊎◌, ◌≤◌, Ok, Err, IfOk, IfErr};
+ghost use Rattle.std.specs.Prelude.{◌≡◌, ◌≢◌, ◌⊎◌, ◌≤◌, length, Ok, Err, IfOk, IfErr};
+ghost use Rattle.limits.specs.declared.TheConstants.{MOST_LISTED_TREES};
 ghost use Rattle.equations.specs.Accepted.{IsEquation};
 ghost use Rattle.counterterm_report.specs.Values.{AreReportValues};
 ghost use Rattle.workbench_core.specs.Completed.{IsForCompleted};
@@ -41,11 +42,12 @@ pub fn compute_of(alloc: Global, file: &[u8], work: &mut Work) -> Result<Compute
     Err(Refusal::Memory)
 }
 
-/// The same before it is printed.
+/// What the report of a file says, before it is printed.
 pub fn report_of(alloc: Global, file: &[u8], work: &mut Work) -> Result<Reported, Refusal>
-    ensures values { IfOk result (λ r.
-        IsForCompleted GivesValues file.now (Ok r)) }
-    ensures printed { IfOk result (λ r. IsEquation r.eq × AreReportValues r.eq r.values) }
+    ensures values { IfOk result (λ r. IsForCompleted GivesValues file.now (Ok r)) }
+    ensures equation { IfOk result (λ r. IsEquation r.eq) }
+    ensures printed { IfOk result (λ r. AreReportValues r.eq r.values) }
+    ensures few { IfOk result (λ r. length r.values.trees ≤ MOST_LISTED_TREES) }
     ensures refused { IfErr result (λ e. (e ≡ Refusal.Memory)
         ⊎ IsForCompleted GivesValues file.now (Err e)) }
     ensures no_fault { result ≢ Err Refusal.FileFault }
