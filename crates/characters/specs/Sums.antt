@@ -26,12 +26,12 @@
 --   IsRefused c xs missing size e == e names the first of these three that fails, or memory is wanted
 --   IsAskedOnce old new id before after == nothing more is finished and the count stays; or the tree
 --       is finished now, and counted
-use Rattle.std.specs.Prelude.{◌≡◌, ℕ, ℤ, pos, ◌+ℤ◌, ◌*ℤ◌, ◌<◌, ◌≤◌, ◌⊎◌, Bool, true, false, not, ◌&&◌, cond, if◌then◌else◌, List, [], ◌∷◌, ◌++◌, map, filter, flat_map, length, Option, Some, None, ⊤}
+use Rattle.std.specs.Prelude.{◌≡◌, ℕ, ℤ, pos, ◌+ℤ◌, ◌*ℤ◌, ◌<◌, ◌≤◌, ◌⊎◌, Bool, true, false, not, ◌&&◌, if◌then◌else◌, List, [], ◌∷◌, ◌++◌, map, filter, flat_map, length, Option, Some, None, ⊤}
 use Rattle.std.specs.List.{AllByRecursion}
 use Rattle.std.specs.Ordering.{is_eq, is_gt}
 use Rattle.ordered_lists.specs.Members.{IsIn}
 use Rattle.exact_sums.specs.Saturating.{overflow}
-use Rattle.signed_sums.specs.Signed.{product_of, size_of, IsSumOf}
+use Rattle.signed_sums.specs.Signed.{product_of, IsSumOf}
 use Rattle.plain_trees.specs.Plain.{Plain, tree_order}
 use Rattle.plain_trees.specs.Degree.{is_empty_tree}
 use Rattle.plain_trees.specs.Coproducts.{Extracted, Recentred}
