@@ -38,7 +38,7 @@ pub fn compute_of(alloc: Global, file: &[u8], work: &mut Work) -> Result<Compute
     ensures no_fault { result ≢ Err Refusal.FileFault }
     ensures count { work.old.tables ≤ work.new.tables }
 {
-    let _ = (alloc, file);
+    let _ = alloc;
     Err(Refusal::Memory)
 }
 
@@ -53,6 +53,6 @@ pub fn report_of(alloc: Global, file: &[u8], work: &mut Work) -> Result<Reported
     ensures no_fault { result ≢ Err Refusal.FileFault }
     ensures count { work.old.tables ≤ work.new.tables }
 {
-    let _ = (alloc, file);
+    let _ = alloc;
     Err(Refusal::Memory)
 }
