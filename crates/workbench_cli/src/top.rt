@@ -1,5 +1,5 @@
 // The top call.
-ghost use Rattle.std.specs.Prelude.{◌≡◌, ◌≢◌, ◌↔◌, ◌⊎◌, ◌≤◌, ℕ, List, [], ◌∷◌, map, Some, Err, string_bytes, OnOk, IfOk, IfErr};
+ghost use Rattle.std.specs.Prelude.{◌≡◌, ◌≢◌, ◌↔◌, ◌⊎◌, ℕ, List, [], ◌∷◌, map, Some, Err, string_bytes, OnOk, IfOk, IfErr};
 ghost use Rattle.wb_outside.specs.Causes.{Rose};
 ghost use Rattle.wb_outside.specs.Told.{Lengthens, Grows, GrowsByFront, Gets, writing};
 ghost use Rattle.workbench_core.specs.declared.refusal.Refusal.{Refusal};
@@ -47,9 +47,6 @@ pub fn workbench<F: Files, O: Sink, E: Sink>(
         → result.code ≢ 3 → result.code ≢ 17
         → (a : Answer) × IsGiven r texts a × IsDelivered a result.code (writing O.told O.faults out.old out.new) (writing E.told E.faults err.old err.new) }
 
-    // The count of the work never falls.
-    ensures count { work.old.tables ≤ work.new.tables }
-
     // The names that are asked for.
     ensures asked { Asks (map string_bytes words.now) result.code (F.asked files.old) (F.asked files.new) }
 {
@@ -73,7 +70,6 @@ fn run<F: Files, O: Sink, E: Sink>(
     ensures write_fault { result.code ≡ 15 → Rose (O.faults out.old) (O.faults out.new) ⊎ Rose (E.faults err.old) (E.faults err.new) }
     ensures answer { (a : Answer) × IsAnswer request.now (F.text files.old) a
         × IsDelivered a result.code (writing O.told O.faults out.old out.new) (writing E.told E.faults err.old err.new) }
-    ensures count { work.old.tables ≤ work.new.tables }
     ensures asked { AsksFor (files_of request.now) (result.code ≡ 3) (result.code ≡ 17) (F.asked files.old) (F.asked files.new) }
 {
     match answer(alloc, request, files, work) {
@@ -92,7 +88,6 @@ fn answer<F: Files>(
     ensures given { IfOk result (λ o. IsOfFiles request.now (F.text files.old) (of_output o)) }
     ensures refused { IfErr result (λ e. (e ≡ Refusal.FileFault) ⊎ (e ≡ Refusal.Memory) ⊎ IsOfFiles request.now (F.text files.old) (of_refusal e)) }
     ensures cause { IfErr result (λ e. e ≡ Refusal.FileFault → Rose (F.faults files.old) (F.faults files.new)) }
-    ensures count { work.old.tables ≤ work.new.tables }
     ensures asked { OnOk result (Lengthens (F.asked files.old) (F.asked files.new) (files_of request.now)) }
     ensures stopped { IfErr result (λ e. AsksFor (files_of request.now) (e ≡ Refusal.FileFault) (e ≡ Refusal.Memory) (F.asked files.old) (F.asked files.new)) }
 {

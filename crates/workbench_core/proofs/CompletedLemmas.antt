@@ -20,7 +20,7 @@ use Rattle.rule_completion.specs.Reached.{IsReached, IsStageFault}
 use Rattle.workbench_core.specs.declared.completed.Completed.{Completed}
 use Rattle.workbench_core.specs.declared.refusal.Refusal.{Refusal}
 use Rattle.workbench_core.specs.declared.refusal.Refusal.TheVariants.{Memory, ZeroDegree}
-use Rattle.workbench_core.specs.Completed.{CompletedRule, completed_rule, IsStageRefused, IsUnlessZero, IsCompleted, IsForCompletion, IsForEquation, IsForCompleted, IsItself, IsCompletedFile}
+use Rattle.workbench_core.specs.Completed.{CompletedRule, completed_rule, IsUnlessZero, IsForCompletion, IsForEquation, IsForCompleted, IsItself, IsCompletedFile}
 use Rattle.workbench_core.specs.Files.{IsForRead}
 use Rattle.workbench_core.specs.Refusals.{of_file, of_stage, of_completion}
 use Rattle.workbench_core.specs.TreeList.{IsTreeList}

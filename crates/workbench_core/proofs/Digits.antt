@@ -1,5 +1,5 @@
 -- The digits of statuses.
-use Rattle.std.proofs.Common.{◌≡◌, ℕ, [], ◌∷◌, decimal, arith}
+use Rattle.std.proofs.Common.{◌≡◌, [], ◌∷◌, decimal, arith}
 use Rattle.std.proofs.lemmas.Fmt.{decimal-digits_of}
 
 pub decimal_2 : decimal 2 ≡ 50 ∷ []

@@ -9,6 +9,7 @@ use Rattle.workbench_core.specs.Characters.{IsActIn, IsActOf, IsMultiplyIn, IsMu
 use Rattle.workbench_core.specs.Check.{IsVerdict}
 use Rattle.workbench_core.specs.Completed.{IsForEquation}
 use Rattle.workbench_core.specs.Compute.{WritesReport}
+use Rattle.workbench_core.specs.Detail.{IsDetailIn}
 use Rattle.workbench_core.specs.Files.{IsForFile}
 use Rattle.workbench_core.specs.Trees.{ListsTrees}
 use Rattle.workbench_core.proofs.FileLemmas.{IsForFile-take}
@@ -60,7 +61,7 @@ module _ (pieces files : List (List ℕ)) (a : Answer) (fronts : AreFronts piece
   IsGiven-fronts (Check name) h = file_front of_result IsVerdict h
   IsGiven-fronts (Compute name) h = file_front of_computing (IsForEquation WritesReport) h
   IsGiven-fronts (Trees name) h = file_front of_result (IsForEquation ListsTrees) h
-  IsGiven-fronts (Detail name tree) h = absurd h
+  IsGiven-fronts (Detail name tree) h = file_front of_result (λ eq. IsDetailIn eq tree) h
   IsGiven-fronts (Act name tree table recentre) h = acts_front tree recentre h
   IsGiven-fronts (Multiply name tree first second) h = multiplies_front tree h
   IsGiven-fronts (Sample number) h = h

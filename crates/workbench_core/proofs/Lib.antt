@@ -1,11 +1,13 @@
 mod AnswerLemmas
 pub mod CompletedLemmas
+pub mod ComputeLemmas
+pub mod DetailLemmas
 mod Digits
 pub mod FileLemmas
 pub mod Fronts
 mod GivenLemmas
 mod KernelRows
-mod PoolTrees
+pub mod Onward
 pub mod RequestLemmas
 mod SumLemmas
 mod TableFronts

@@ -20,6 +20,7 @@ use Rattle.workbench_core.specs.declared.request.Request.TheVariants.{Check, Com
 use Rattle.workbench_core.specs.Characters.{IsActOf, IsMultiplyOf}
 use Rattle.workbench_core.specs.Check.{IsChecked}
 use Rattle.workbench_core.specs.Compute.{Computing, IsComputed}
+use Rattle.workbench_core.specs.Detail.{IsDetailOf}
 use Rattle.workbench_core.specs.Fixed.{fixed_status, fixed_line}
 use Rattle.workbench_core.specs.Refusals.{status_of, line_of}
 use Rattle.workbench_core.specs.Sample.{IsSampled}
@@ -65,7 +66,7 @@ abbrev pub IsGiven : Request → List (List ℕ) → Answer → Type 0
 IsGiven (Check file) files a = IsPrinted of_result (IsChecked (file_at files 0)) a
 IsGiven (Compute name) files a = IsPrinted of_computing (IsComputed (file_at files 0)) a
 IsGiven (Trees name) files a = IsPrinted of_result (IsTreesOf (file_at files 0)) a
-IsGiven (Detail name tree) files a = ⊥
+IsGiven (Detail name tree) files a = IsPrinted of_result (IsDetailOf (file_at files 0) tree) a
 IsGiven (Act name tree table recentre) files a =
     IsPrinted of_result (λ r. IsActOf (file_at files 0) tree (file_at files 1) recentre r) a
 IsGiven (Multiply name tree first second) files a =

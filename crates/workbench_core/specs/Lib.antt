@@ -5,6 +5,7 @@ pub mod Check
 pub mod CheckText
 pub mod Completed
 pub mod Compute
+pub mod Detail
 pub mod Files
 pub mod Fixed
 pub mod GivenTable

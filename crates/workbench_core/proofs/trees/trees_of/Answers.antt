@@ -1,4 +1,4 @@
-use Rattle.std.proofs.Common.{◌∙◌, subst, sym, IfOk}
+use Rattle.std.proofs.Common.{subst, IfOk}
 use Rattle.std.proofs.lemmas.Result.{err_from_is_err_and}
 use Rattle.rule_steps.specs.Steps.{trees_of}
 use Rattle.workbench_core.specs.TreeList.{IsTreeList}
