@@ -3,7 +3,11 @@ use Rattle.std.proofs.Common.{◌≡◌, ◌≢◌, ◌⊎◌, inl, inr, ◌<◌
 use Rattle.workbench_core.specs.declared.answer.Output.{Output}
 use Rattle.workbench_core.specs.declared.refusal.Refusal.{Refusal}
 use Rattle.workbench_core.specs.declared.refusal.Refusal.TheVariants.{FileFault, Memory}
+use Rattle.sample_files.specs.Sample.{sample_text}
 use Rattle.workbench_core.specs.Answers.{Answer, of_output, of_refusal, of_result, IsPrinted, file_at}
+use Rattle.workbench_core.specs.Completed.{IsForCompleted}
+use Rattle.workbench_core.specs.Compute.{GivesValues}
+use Rattle.workbench_core.specs.Sample.{IsSampled}
 
 module _ {V : Type 0} (view : V → List ℕ) (answers : Result (List ℕ) Refusal → Type 0) where
   pub given : (text : Result V Refusal) (result : Result Output Refusal) → IfOk result (λ o. IfOk text (λ v. of_output o ≡ of_result (Ok (view v)))) → is_ok result ≡ is_ok text
@@ -29,3 +33,8 @@ pub file_is : {V : Type 0} (view : V → List ℕ) (files : List V) (i : ℕ) (v
 file_is view [] i v lt is = absurd (omega (arith, lt))
 file_is view (f ∷ files) zero v lt is = ap view is
 file_is view (f ∷ files) (suc i) v lt is = file_is view files i v (omega (arith, lt)) is
+
+-- a sample file has no report
+pub sample_refused : (number : ℕ) (file : List ℕ) (e : Refusal) → file ≡ sample_text number → (e ≡ Memory) ⊎ IsForCompleted GivesValues file (Err e) → (e ≡ Memory) ⊎ IsSampled number (Err e)
+sample_refused number file e same (inl memory) = inl memory
+sample_refused number file e same (inr h) = inr (Err e, subst (λ f. IsForCompleted GivesValues f (Err e)) same h, refl)

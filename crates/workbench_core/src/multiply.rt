@@ -119,7 +119,7 @@ fn multiply_in_pool<'a>(
     };
     let mut work = Work { tables: 0 };
     match product(alloc, &mut tables, first, second, id, &mut work) {
-        Ok(sum) => Ok(product_text(alloc, sum)?),
+        Ok(sum) => Ok(product_text(alloc, &sum)?),
         Err(error) => {
             let refusal = sum_refusal(alloc, tables.pool(), id, b"extraction", b"product", error)?;
             Err(refusal)

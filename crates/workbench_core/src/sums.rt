@@ -36,11 +36,11 @@ pub(crate) fn act_text(
 }
 
 /// The line `product N`. Refused only for want of memory.
-pub(crate) fn product_text(alloc: Global, number: i128) -> Result<Vec<u8>, AllocError>
-    ensures { IfOk result (λ v. v.items ≡ product_text number) }
+pub(crate) fn product_text(alloc: Global, number: &i128) -> Result<Vec<u8>, AllocError>
+    ensures { IfOk result (λ v. v.items ≡ product_text number.now) }
 {
     let mut text = Vec::from_slice(alloc, b"product ")?;
-    put_signed(&number, &mut text)?;
+    put_signed(number, &mut text)?;
     text.extend_from_slice(b"\n")?;
     Ok(text)
 }

@@ -22,5 +22,5 @@ pub returns-clause-refused : goal.returns-clause-refused
 returns-clause-refused c =
     let pool : c.in-Ok.tables.pool ≡ c.args.pool = ap (λ (t : TablesContent). t.pool) c.in-Ok.ensures in
     let e = c.in-Err.ensures in
-    product_refused c.args.eq.now.types c.args.pool c.in-Ok.tables.pool c.product.new.tables.pool c.pool.result.now c.args.id.0 c.args.first.now.rows c.args.second.now.rows c.in-Err.error
+    product_refused c.args.eq.now.types c.args.pool c.in-Ok.tables.pool c.args.id.0 c.args.first.now.rows c.args.second.now.rows c.product.new.tables.pool c.pool.result.now c.in-Err.error
     c.in_ok-refusal-in-Err.refusal c.requires.types pool e.grown.pool c.requires.known e.refusal c.pool.ensures c.in_ok-refusal-in-Err.ensures.named
