@@ -1,32 +1,15 @@
 -- Trees and tables that are given as texts.
-use Rattle.std.proofs.Common.{◌≡◌, ◌⊎◌, inl, inr, ◌≤◌, ℕ, List, length, Result, Ok, Err, IfOk, IfErr, refl, ap}
+use Rattle.std.proofs.Common.{◌≡◌, ◌⊎◌, inl, inr, ◌≤◌, ℕ, List, length, Result, Ok, Err, IfOk, IfErr, refl}
 use Rattle.limits.specs.declared.TheConstants.{MOST_FILE_BYTES, MOST_LISTED_DECORATIONS}
 use Rattle.degree_numbers.specs.declared.types.Types.{Types}
 use Rattle.plain_trees.specs.Plain.{Plain}
-use Rattle.plain_trees.specs.Reading.{IsTreeOf, IsRefused}
-use Rattle.plain_trees.specs.declared.error.TreeError.{TreeError}
-use Rattle.plain_trees.specs.declared.error.TreeError.TheVariants as errors
-use Rattle.cutting_sizes.specs.Bounds.{IsFit}
+use Rattle.plain_trees.specs.Reading.{IsTreeOf}
 use Rattle.character_tables.specs.Rows.{Row}
 use Rattle.character_tables.specs.Texts.{IsTableText}
 use Rattle.workbench_core.specs.declared.refusal.Refusal.{Refusal}
 use Rattle.workbench_core.specs.declared.refusal.Refusal.TheVariants.{Memory}
 use Rattle.workbench_core.specs.GivenTable.{IsNoTable, IsForTable}
 use Rattle.workbench_core.specs.GivenTree.{IsTreeRefused, IsForTree}
-use Rattle.workbench_core.specs.Refusals.{of_tree_error}
-
-pub fit_of : (ty : Types) (text : List ℕ) (t : Plain) → IsTreeOf ty MOST_LISTED_DECORATIONS text t → IsFit t
-fit_of ty text t h = record { edges = h.edges; decorations = h.decorations }
-
--- the text of no tree
-pub text_refused : {T : Type 0} (ty : Types) (text : List ℕ) (error : TreeError) (e : Refusal) → IsRefused ty MOST_LISTED_DECORATIONS text error → e ≡ of_tree_error error
-    → (e ≡ Memory) ⊎ IsTreeRefused {T = T} ty text (Err e)
-text_refused ty text errors.Memory e cause is = inl is
-text_refused ty text (errors.TreeText place) e cause is = inr (record { error = errors.TreeText place; cause = cause; not_memory = λ wrong. cc; answer = ap Err is })
-text_refused ty text (errors.UnknownType place) e cause is = inr (record { error = errors.UnknownType place; cause = cause; not_memory = λ wrong. cc; answer = ap Err is })
-text_refused ty text (errors.TooManyEdges count) e cause is = inr (record { error = errors.TooManyEdges count; cause = cause; not_memory = λ wrong. cc; answer = ap Err is })
-text_refused ty text (errors.TooManyDecorations total) e cause is = inr (record { error = errors.TooManyDecorations total; cause = cause; not_memory = λ wrong. cc; answer = ap Err is })
-text_refused ty text errors.NotCanonical e cause is = inr (record { error = errors.NotCanonical; cause = cause; not_memory = λ wrong. cc; answer = ap Err is })
 
 -- answers for a table that is given
 module _ {T : Type 0} (answers : List Row → Result T Refusal → Type 0) (ty : Types) (text : List ℕ) where
