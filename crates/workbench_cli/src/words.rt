@@ -72,12 +72,7 @@ fn read_three<'a>(command: &str, name: &'a str, tree: &'a str) -> Option<Request
 }
 
 // What a command with three operands asks for.
-fn read_four<'a>(
-    command: &str,
-    name: &'a str,
-    tree: &'a str,
-    table: &'a str,
-) -> Option<Request<'a>>
+fn read_four<'a>(command: &str, name: &'a str, tree: &'a str, table: &'a str) -> Option<Request<'a>>
     ensures found { IfSome result (λ r.
         IsRequest (command.now ∷ name.now ∷ tree.now ∷ table.now ∷ []) r) }
     ensures none { IfNone result

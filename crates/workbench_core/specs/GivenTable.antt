@@ -16,11 +16,12 @@ use Rattle.workbench_core.specs.declared.refusal.Refusal.TheVariants.{Limit, Tab
 abbrev pub IsNoTable : Types → List ℕ → Refusal → Type 0
 IsNoTable ty text e =
     ((MOST_FILE_BYTES < length text) × (e ≡ Limit Bytes (pos (MOST_FILE_BYTES + 1))))
-    ⊎ ((length text ≤ MOST_FILE_BYTES) × (line : ℕ) × IsTableRefused ty text (tables.TableRefused line)
-        × (e ≡ TableRefused line))
+    ⊎ ((length text ≤ MOST_FILE_BYTES) × (line : ℕ)
+    × IsTableRefused ty text (tables.TableRefused line) × (e ≡ TableRefused line))
 
 abbrev pub IsForTable : {T : Type 0} → (List Row → Result T Refusal → Type 0) → Types → List ℕ →
     Result T Refusal → Type 0
 IsForTable answers ty text r =
-    ((length text ≤ MOST_FILE_BYTES) × (rows : List Row) × IsTableText ty text rows × answers rows r)
+    ((length text ≤ MOST_FILE_BYTES) × (rows : List Row) × IsTableText ty text rows
+    × answers rows r)
     ⊎ ((e : Refusal) × IsNoTable ty text e × (r ≡ Err e))
