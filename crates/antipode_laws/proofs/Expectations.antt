@@ -1,7 +1,8 @@
 -- The constants are the expectations of the twisted antipode.
-use Rattle.std.proofs.Common.{◌≡◌, ℕ, zero, suc, ◌-◌, ◌%◌, ◌==◌, pos, neg_ℤ, true, false, cond, not, ◌||◌, List, [], ◌∷◌, ◌++◌, length, refl, sym, ap, ◌∙◌, subst, slice_index, None}
+use Rattle.std.proofs.Common.{◌≡◌, ℕ, zero, suc, ◌-◌, ◌%◌, ◌==◌, pos, neg_ℤ, true, false, cond, not, ◌||◌, List, [], ◌∷◌, ◌++◌, length, refl, sym, ap, ◌∙◌, slice_index, None}
 use Rattle.std.specs.List.{AllByRecursion, list_any}
 use Rattle.degree_numbers.specs.declared.types.Types.{Types}
+use Rattle.degree_numbers.proofs.TypeBounds.{all_weaker}
 use Rattle.plain_trees.specs.Plain.{Plain, bare, graft}
 use Rattle.plain_trees.specs.Degree.{HasTypes, is_empty_tree}
 use Rattle.plain_trees.specs.Coproducts.{Extracted}
@@ -10,13 +11,13 @@ use Rattle.symbol_polys.specs.Polynomials.{PlainTerm, times_all}
 use Rattle.symbol_polys.specs.Products.{products}
 use Rattle.symbol_polys.proofs.Entries.{all_zero}
 use Rattle.gaussian_pairings.specs.Vanishing.{some_below, has_odd_direction, entry_in, vanishes}
-use Rattle.tree_cuttings.proofs.Positive.{all_append}
 use Rattle.antipode_laws.specs.Weighed.{Weighed, one, unit, symbol_term, forest_terms, negated, negated_sum}
 use Rattle.antipode_laws.specs.Antipode.{other_terms, value_at, from_smaller, tree_terms, nothing, IsAntipode}
 use Rattle.antipode_laws.specs.Constants.{expected, IsConstants, expectation_terms}
 use Rattle.antipode_laws.proofs.BySize.{by_size}
-use Rattle.antipode_laws.proofs.OtherTerms.{IsPart, parts_of_others, all_both}
-use Rattle.antipode_laws.proofs.TreeSymbols.{IsOverTrees, AreOverTrees, expected-append, expected-times_all, expected-products, over-products, over-times_all}
+use Rattle.antipode_laws.proofs.OtherTerms.{IsPart, parts_of_others}
+use Rattle.antipode_laws.proofs.TreeSymbols.{IsTree, AreOverTrees, expected-append, expected-times_all, expected-products}
+use Rattle.antipode_laws.proofs.OverSymbols.{Over, over-forest, over_solution}
 
 -- the empty tree does not vanish
 none_below : (n : ℕ) → some_below n (λ g. false) ≡ false
@@ -54,14 +55,13 @@ module _ (ty : Types) (a c : Plain → Weighed) where
     over : AreOverTrees (a f).terms
     is : expectation_terms ty (a f).terms ≡ (c f).terms
 
-  over-forest : (fs : List Plain) → AllByRecursion IsExpected fs → AreOverTrees (forest_terms a fs)
-  over-forest [] h = (tt, tt)
-  over-forest (f ∷ fs) h = over-products (a f).terms (forest_terms a fs) h.0.over (over-forest fs h.1)
+  over-trees : (fs : List Plain) → AllByRecursion IsExpected fs → AreOverTrees (forest_terms a fs)
+  over-trees fs h = over-forest IsTree ty tree_terms a fs (all_weaker IsExpected (Over IsTree ty tree_terms a) fs (λ f e. e.over) h)
 
   expected-forest : (fs : List Plain) → AllByRecursion IsExpected fs → expectation_terms ty (forest_terms a fs) ≡ forest_terms c fs
   expected-forest [] h = refl
   expected-forest (f ∷ fs) h =
-      expected-products ty (a f).terms (forest_terms a fs) h.0.over (over-forest fs h.1)
+      expected-products ty (a f).terms (forest_terms a fs) h.0.over (over-trees fs h.1)
       ∙ ap (λ (ts : List PlainTerm). products ts (expectation_terms ty (forest_terms a fs))) h.0.is
       ∙ ap (products (c f).terms) (expected-forest fs h.1)
 
@@ -69,12 +69,9 @@ module _ (ty : Types) (a c : Plain → Weighed) where
   expected-negated x h =
       expected-times_all ty (neg_ℤ (pos x.1)) (products (forest_terms a x.0.0) (tree_terms x.0.1))
       ∙ ap (times_all (neg_ℤ (pos x.1)))
-      (expected-products ty (forest_terms a x.0.0) (tree_terms x.0.1) (over-forest x.0.0 h) (over_quotient x.0.1)
+      (expected-products ty (forest_terms a x.0.0) (tree_terms x.0.1) (over-trees x.0.0 h) (over_quotient x.0.1)
       ∙ ap (λ (ts : List PlainTerm). products ts (expectation_terms ty (tree_terms x.0.1))) (expected-forest x.0.0 h)
       ∙ ap (products (forest_terms c x.0.0)) (expected_quotient ty x.0.1))
-
-  over-negated : (x : Extracted × ℕ) → AllByRecursion IsExpected x.0.0 → AreOverTrees (negated tree_terms a x)
-  over-negated x h = over-times_all (neg_ℤ (pos x.1)) (products (forest_terms a x.0.0) (tree_terms x.0.1)) (over-products (forest_terms a x.0.0) (tree_terms x.0.1) (over-forest x.0.0 h) (over_quotient x.0.1))
 
   expected-sum : (xs : List (Extracted × ℕ)) → AllByRecursion (λ (x : Extracted × ℕ). AllByRecursion IsExpected x.0.0) xs → expectation_terms ty (negated_sum tree_terms a xs) ≡ negated_sum (expected ty) c xs
   expected-sum [] h = refl
@@ -82,13 +79,6 @@ module _ (ty : Types) (a c : Plain → Weighed) where
       expected-append ty (negated tree_terms a x) (negated_sum tree_terms a xs)
       ∙ ap (λ (ts : List PlainTerm). ts ++ expectation_terms ty (negated_sum tree_terms a xs)) (expected-negated x h.0)
       ∙ ap (λ (ts : List PlainTerm). negated (expected ty) c x ++ ts) (expected-sum xs h.1)
-
-  over-sum : (xs : List (Extracted × ℕ)) → AllByRecursion (λ (x : Extracted × ℕ). AllByRecursion IsExpected x.0.0) xs → AreOverTrees (negated_sum tree_terms a xs)
-  over-sum [] h = tt
-  over-sum (x ∷ xs) h = all_append IsOverTrees (negated tree_terms a x) (negated_sum tree_terms a xs) (over-negated x h.0) (over-sum xs h.1)
-
-  over-value : (t : Plain) → AllByRecursion (λ (x : Extracted × ℕ). AllByRecursion IsExpected x.0.0) (other_terms ty t) → AreOverTrees (value_at ty tree_terms None a t).terms
-  over-value t h = elim (is_empty_tree t) as (λ b. AreOverTrees (cond b unit (from_smaller ty tree_terms a t)).terms) [ true ↦ (tt, tt) | false ↦ over-sum (other_terms ty t) h ]
 
   expected-value : (t : Plain) → AllByRecursion (λ (x : Extracted × ℕ). AllByRecursion IsExpected x.0.0) (other_terms ty t) →
       expectation_terms ty (value_at ty tree_terms None a t).terms ≡ (value_at ty (expected ty) None c t).terms
@@ -98,23 +88,17 @@ module _ (ty : Types) (a c : Plain → Weighed) where
         | false ↦ expected-sum (other_terms ty t) h
       ]
 
-  all_weaken : {X : Type 0} (P Q : X → Type 0) (xs : List X) → ((x : X) → P x → Q x) → AllByRecursion P xs → AllByRecursion Q xs
-  all_weaken P Q xs h p = all_both P P Q xs (λ x k l. h x k) p p
-
   are_expected : IsAntipode ty a → IsConstants ty nothing c → (t : Plain) → HasTypes ty t → IsExpected t
   are_expected solves also =
       by_size (λ t. HasTypes ty t → IsExpected t)
       (λ t below typed.
       let parts =
-      all_weaken (λ (x : Extracted × ℕ). AllByRecursion (IsPart ty t) x.0.0) (λ (x : Extracted × ℕ). AllByRecursion IsExpected x.0.0) (other_terms ty t)
-      (λ x h. all_weaken (IsPart ty t) IsExpected x.0.0 (λ f p. below f p.smaller p.typed) h) (parts_of_others ty t typed) in
+      all_weaker (λ (x : Extracted × ℕ). AllByRecursion (IsPart ty t) x.0.0) (λ (x : Extracted × ℕ). AllByRecursion IsExpected x.0.0) (other_terms ty t)
+      (λ x h. all_weaker (IsPart ty t) IsExpected x.0.0 (λ f p. below f p.smaller p.typed) h) (parts_of_others ty t typed) in
       record {
-        over = subst_over t (sym (solves t typed)) (over-value t parts);
+        over = over_solution IsTree ty tree_terms a (λ q k. over_quotient q) nothing (λ f w e. absurd cc) solves t typed;
         is = ap (λ (w : Weighed). expectation_terms ty w.terms) (solves t typed) ∙ expected-value t parts ∙ ap (λ (w : Weighed). w.terms) (sym (also t typed));
       })
-    where
-      subst_over : (t : Plain) → value_at ty tree_terms None a t ≡ a t → AreOverTrees (value_at ty tree_terms None a t).terms → AreOverTrees (a t).terms
-      subst_over t e h = subst (λ (w : Weighed). AreOverTrees w.terms) e h
 
   pub constants_are : IsAntipode ty a → IsConstants ty nothing c → (t : Plain) → HasTypes ty t → expectation_terms ty (a t).terms ≡ (c t).terms
   constants_are solves also t typed = (are_expected solves also t typed).is

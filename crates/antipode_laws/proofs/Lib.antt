@@ -5,6 +5,7 @@ pub mod Expectations
 pub mod IntegratedEdges
 pub mod Masses
 pub mod OtherTerms
+pub mod OverSymbols
 pub mod Parities
 pub mod RunLaws
 pub mod SameValues

@@ -18,11 +18,14 @@ use Rattle.antipode_laws.specs.Sameness.{AreSameValues, IsSameHeld, IsHeldValue}
 use Rattle.antipode_laws.proofs.BySize.{by_size}
 use Rattle.antipode_laws.proofs.OtherTerms.{IsPart, parts_of_others}
 
-same_back : (w u : Weighed) → AreSameValues w u → AreSameValues u w
+pub same_back : (w u : Weighed) → AreSameValues w u → AreSameValues u w
 same_back w u h = record { coefficients = λ m. sym (h.coefficients m); mass = sym h.mass }
 
-same_self : (w : Weighed) → AreSameValues w w
+pub same_self : (w : Weighed) → AreSameValues w w
 same_self w = record { coefficients = λ m. refl; mass = refl }
+
+pub same_both : (w u v : Weighed) → AreSameValues w u → AreSameValues u v → AreSameValues w v
+same_both w u v h k = record { coefficients = λ m. h.coefficients m ∙ k.coefficients m; mass = h.mass ∙ k.mass }
 
 module _ (a b : Plain → Weighed) where
   abbrev Agree : Plain → Type 0

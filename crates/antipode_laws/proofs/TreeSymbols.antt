@@ -115,15 +115,19 @@ module _ (ty : Types) where
         | false ↦ λ e. ap (λ (vs : List PlainTerm). vs ++ products (expectation_terms ty ts) (expectation_terms ty us)) (some_with t us e h.0 k)
       ]) refl
 
--- what is over trees
-over_with : (t : PlainTerm) (us : List PlainTerm) → IsOverTrees t → AreOverTrees us → AreOverTrees (products_with t us)
-over_with t [] h k = tt
-over_with t (u ∷ us) h k = (all-monomial_product IsTree t.symbols u.symbols h k.0, over_with t us h k.1)
+-- what is over symbols of one kind
+module _ (P : PlainSymbol → Type 0) where
+  abbrev pub AreOver : List PlainTerm → Type 0
+  AreOver ts = AllByRecursion (λ (t : PlainTerm). AllByRecursion P t.symbols) ts
 
-pub over-products : (ts us : List PlainTerm) → AreOverTrees ts → AreOverTrees us → AreOverTrees (products ts us)
-over-products [] us h k = tt
-over-products (t ∷ ts) us h k = all_append IsOverTrees (products_with t us) (products ts us) (over_with t us h.0 k) (over-products ts us h.1 k)
+  over_with : (t : PlainTerm) (us : List PlainTerm) → AllByRecursion P t.symbols → AreOver us → AreOver (products_with t us)
+  over_with t [] h k = tt
+  over_with t (u ∷ us) h k = (all-monomial_product P t.symbols u.symbols h k.0, over_with t us h k.1)
 
-pub over-times_all : (z : ℤ) (ts : List PlainTerm) → AreOverTrees ts → AreOverTrees (times_all z ts)
-over-times_all z [] h = tt
-over-times_all z (t ∷ ts) h = (h.0, over-times_all z ts h.1)
+  pub over-products : (ts us : List PlainTerm) → AreOver ts → AreOver us → AreOver (products ts us)
+  over-products [] us h k = tt
+  over-products (t ∷ ts) us h k = all_append (λ (v : PlainTerm). AllByRecursion P v.symbols) (products_with t us) (products ts us) (over_with t us h.0 k) (over-products ts us h.1 k)
+
+  pub over-times_all : (z : ℤ) (ts : List PlainTerm) → AreOver ts → AreOver (times_all z ts)
+  over-times_all z [] h = tt
+  over-times_all z (t ∷ ts) h = (h.0, over-times_all z ts h.1)

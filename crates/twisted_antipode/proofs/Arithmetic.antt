@@ -83,10 +83,10 @@ no_size : (ts : List PlainTerm) → AllByRecursion (λ t. 0 < unsigned_abs t.coe
 no_size [] h l = refl
 no_size (t ∷ ts) h l = let some = h.0 in absurd (omega (arith, some, l))
 
-no_terms : (f : Poly) → IsPoly f → f.mass ≡ pos 0 → terms_of f.terms ≡ []
+pub no_terms : (f : Poly) → IsPoly f → f.mass ≡ pos 0 → terms_of f.terms ≡ []
 no_terms f h e = no_size (terms_of f.terms) h.not_zero (let most = h.within in omega (arith, ints, most, e))
 
-no_mass : (w : Weighed) (f : Poly) → IsPolyOf w f → f.mass ≡ pos 0 → w.mass ≡ 0
+pub no_mass : (w : Weighed) (f : Poly) → IsPolyOf w f → f.mass ≡ pos 0 → w.mass ≡ 0
 no_mass w f h e = let a = mass_is w f h in let b = ap unsigned_abs e ∙ abs_pos 0 in omega (arith, a, b)
 
 nothing_times : (m n : ℕ) → m ≡ 0 → 0 ≡ saturating_times m n
@@ -126,3 +126,6 @@ both_large w u h k = (large_times w.mass u.mass h (omega (arith, k))).0
 
 pub product_large : (w u : Weighed) (f g : Poly) → IsPolyOf w f → IsPolyOf u g → overflow ≤ unsigned_abs f.mass * unsigned_abs g.mass → overflow ≤ saturating_times w.mass u.mass
 product_large w u f g hf hg h = let a = mass_is w f hf in let b = mass_is u g hg in let same : unsigned_abs f.mass * unsigned_abs g.mass ≡ w.mass * u.mass = rw (a, b) refl in omega (arith, h, same)
+
+pub no_coefficients : (w : Weighed) (f : Poly) → IsPoly f → f.mass ≡ pos 0 → IsPolyOf w f → HaveSameCoefficients w.terms []
+no_coefficients w f poly none h = λ m. sym (h.coefficients m) ∙ ap (coefficient_of m) (no_terms f poly none)

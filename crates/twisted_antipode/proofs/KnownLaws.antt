@@ -1,18 +1,16 @@
 -- What is known stays so while the pool grows, and while more is held.
-use Rattle.std.proofs.Common.{◌≡◌, ◌==◌, ℕ, ◌+◌, ◌*◌, ◌<◌, ◌≤◌, ◌⊎◌, pos, unsigned_abs, Bool, true, false, cond, inl, inr, List, [], ◌∷◌, ◌++◌, length, Option, Some, None, refl, sym, ap, ◌∙◌, subst, arith}
-use Rattle.std.specs.List.{AllByRecursion}
+use Rattle.std.proofs.Common.{◌≡◌, ◌==◌, ℕ, ◌<◌, ◌⊎◌, true, false, cond, inl, inr, List, [], ◌∷◌, ◌++◌, length, Option, Some, None, refl, sym, ap, ◌∙◌, subst, arith}
 use Rattle.std.specs.Ordering.{is_eq}
-use Rattle.std.proofs.lemmas.Option.{slice_get-get_or}
 use Rattle.std.proofs.lemmas.Bool.Decides.{Decides-eqb}
 use Rattle.ordered_lists.specs.Members.{IsIn}
 use Rattle.exact_sums.specs.Saturating.{overflow}
 use Rattle.exact_sums.specs.Keyed.{IsExactTest, same_by}
 use Rattle.exact_sums.proofs.CollectedLaws.{same_by_exact}
 use Rattle.degree_numbers.specs.declared.types.Types.{Types}
-use Rattle.plain_trees.specs.Plain.{Plain, bare, tree_order}
+use Rattle.plain_trees.specs.Plain.{Plain, tree_order}
 use Rattle.plain_trees.specs.Degree.{HasTypes}
 use Rattle.plain_trees.proofs.OrderLaws.{tree_order_total, tree_exact}
-use Rattle.tree_pool.specs.Content.{Content, Holds, IsKept, IsPooled, IsGrown, tree_at}
+use Rattle.tree_pool.specs.Content.{Content, IsPooled, IsGrown, tree_at}
 use Rattle.tree_pool.proofs.Growth.{grown_at, grown_length}
 use Rattle.std.proofs.lemmas.Int.{ints}
 use Rattle.symbol_polys.specs.View.{IsPoly}
@@ -28,7 +26,7 @@ use Rattle.twisted_antipode.specs.Known.{first_held, IsWellHeld, AreWellHeld, Is
 use Rattle.twisted_antipode.proofs.Arithmetic.{mass_is}
 use Rattle.twisted_antipode.proofs.Pooled.{holds_at}
 
-exact : IsExactTest (same_by tree_order)
+pub exact : IsExactTest (same_by tree_order)
 exact = same_by_exact tree_order tree_order_total tree_exact
 
 -- the pool grows
@@ -56,7 +54,7 @@ good_grown r c d hs a g well h =
     }
 
 -- a tree by its number
-same_number : (c : Content) (i j : ℕ) → IsPooled c → i < length c.trees → j < length c.trees → is_eq (tree_order (tree_at c i) (tree_at c j)) ≡ true → i ≡ j
+pub same_number : (c : Content) (i j : ℕ) → IsPooled c → i < length c.trees → j < length c.trees → is_eq (tree_order (tree_at c i) (tree_at c j)) ≡ true → i ≡ j
 same_number c i j pooled li lj h =
     let same : tree_at c i ≡ tree_at c j = exact.only (tree_at c i) (tree_at c j) h in
     pooled.distinct i j (tree_at c j) (holds_at c i li ∙ ap (λ (t : Plain). Some t) same) (holds_at c j lj)
@@ -163,7 +161,7 @@ more_held r c hs i p none well one value =
       held = subst (AreWellHeld c) (sym last) (well_last c hs (i, weighed_of p) well one);
     }
 
-well_member : (c : Content) (h : Held) (hs : List Held) → AreWellHeld c hs → IsIn h hs → IsWellHeld c h
+pub well_member : (c : Content) (h : Held) (hs : List Held) → AreWellHeld c hs → IsIn h hs → IsWellHeld c h
 well_member c h [] well i = absurd i
 well_member c h (k ∷ hs) well (inl e) = subst (IsWellHeld c) e well.0
 well_member c h (k ∷ hs) well (inr i) = well_member c h hs well.1 i

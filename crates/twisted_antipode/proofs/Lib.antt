@@ -7,3 +7,10 @@ pub mod Keepings
 pub mod PartLaws
 pub mod ValueLaws
 pub mod RecursionLaws
+pub mod RunLaws
+pub mod ForestLaws
+pub mod CountLaws
+pub mod SolutionLaws
+pub mod HeldLaws
+pub mod ConstantLaws
+pub mod WorkLaws

@@ -1,29 +1,27 @@
 -- The parts of the right side of the recursion, forest by forest.
-use Rattle.std.proofs.Common.{◌≡◌, ℕ, ◌+◌, ◌*◌, ◌<◌, ◌≤◌, ℤ, pos, neg_ℤ, ◌+ℤ◌, ◌*ℤ◌, unsigned_abs, inl, inr, Bool, true, false, cond, not, List, [], ◌∷◌, ◌++◌, map, filter, refl, sym, ap, ◌∙◌, subst, arith}
+use Rattle.std.proofs.Common.{◌≡◌, ℕ, ◌*◌, ◌≤◌, ℤ, pos, neg_ℤ, ◌+ℤ◌, ◌*ℤ◌, unsigned_abs, inl, inr, true, false, cond, not, List, [], ◌∷◌, ◌++◌, map, refl, sym, ap, ◌∙◌, subst, arith}
 use Rattle.std.specs.List.{AllByRecursion}
 use Rattle.std.specs.Ordering.{is_eq}
 use Rattle.std.proofs.lemmas.Int.{ints}
 use Rattle.std.proofs.lemmas.List.Elements.{filter-append}
 use Rattle.ordered_lists.specs.Members.{IsIn}
 use Rattle.ordered_lists.proofs.Members.{in_map}
-use Rattle.exact_sums.specs.Keyed.{IsExactTest, same_by, keys}
+use Rattle.exact_sums.specs.Keyed.{IsExactTest, same_by}
 use Rattle.exact_sums.proofs.CollectedLaws.{same_by_exact}
 use Rattle.exact_sums.specs.Saturating.{overflow, saturated, saturating_plus, saturating_times, saturating_product, product}
 use Rattle.exact_sums.proofs.SaturatingLaws.{saturated_mul_right, product_cons, saturating_times_comm}
 use Rattle.degree_numbers.specs.declared.types.Types.{Types}
-use Rattle.plain_trees.specs.Plain.{Plain, edge_count_of}
+use Rattle.plain_trees.specs.Plain.{Plain}
 use Rattle.plain_trees.specs.Canon.{canon}
 use Rattle.plain_trees.specs.Degree.{HasTypes, empty_tree}
 use Rattle.plain_trees.specs.Coproducts.{Extracted, extracted_order, extraction_terms}
 use Rattle.tree_cuttings.proofs.Orders.{extracted_total, extracted_exact}
 use Rattle.tree_pool.specs.Content.{tree_at}
 use Rattle.cutting_sizes.specs.Bounds.{IsSmaller}
-use Rattle.cutting_sizes.specs.Sizes.{node_sum}
 use Rattle.cutting_sizes.proofs.Falls.{term_falls}
 use Rattle.pooled_cuttings.specs.Groves.{GroveContent, forest_in}
 use Rattle.extraction_coproduct.specs.declared.term.ExtractTerm.{ExtractTerm}
 use Rattle.tree_pool.specs.declared.ForestId.{ForestId}
-use Rattle.symbol_polys.specs.declared.poly.Poly.{Poly}
 use Rattle.symbol_polys.specs.Polynomials.{PlainTerm, coefficient_of, HaveSameCoefficients, times_all}
 use Rattle.symbol_polys.specs.Products.{products}
 use Rattle.symbol_polys.proofs.AddLaws.{coefficient_of-append}
@@ -39,7 +37,7 @@ use Rattle.twisted_antipode.specs.declared.value.Value.{Value}
 use Rattle.twisted_antipode.specs.declared.value.Value.TheVariants.{Sum, TooLarge}
 use Rattle.twisted_antipode.specs.Quotients.{quotient_terms}
 use Rattle.twisted_antipode.specs.RunTerms.{quotients_in, run_value}
-use Rattle.twisted_antipode.specs.Values.{IsPolyOf, IsValueOf, sum_of, product_of, negative_of, forest_weighed}
+use Rattle.twisted_antipode.specs.Values.{IsValueOf, sum_of, product_of, negative_of, forest_weighed}
 use Rattle.twisted_antipode.specs.Known.{pairs_in, other_pairs, part_value}
 
 pub value_same : (w u : Weighed) (v : Value) → HaveSameCoefficients w.terms u.terms → w.mass ≡ u.mass → IsValueOf w v → IsValueOf u v

@@ -1,26 +1,21 @@
 -- Steps of the recursion: trees of a forest, and terms of a coproduct.
-use Rattle.std.proofs.Common.{◌≡◌, ℕ, zero, suc, ◌+◌, ◌*◌, ◌<◌, ◌≤◌, ℤ, pos, unsigned_abs, inl, inr, Bool, true, false, cond, List, [], ◌∷◌, map, drop, get_or, length, refl, sym, ap, ◌∙◌, subst, arith, Result, Ok, Err, IfOk, Option, Some, None, MatchOption, ◌++◌, append_assoc}
-use Rattle.std.specs.List.{AllByRecursion}
+use Rattle.std.proofs.Common.{◌≡◌, ℕ, zero, suc, ◌+◌, ◌<◌, ◌≤◌, ℤ, pos, unsigned_abs, inl, inr, List, [], ◌∷◌, map, drop, get_or, length, refl, sym, ap, ◌∙◌, subst, arith, Result, Ok, Err, IfOk, Option, Some, None, MatchOption}
 use Rattle.std.proofs.lemmas.Grind.{common_steps}
 use Rattle.std.proofs.lemmas.Int.{ints}
-use Rattle.exact_sums.specs.Saturating.{overflow}
-use Rattle.degree_numbers.specs.declared.types.Types.{Types}
-use Rattle.plain_trees.specs.Plain.{Plain, edge_count_of}
-use Rattle.plain_trees.specs.Coproducts.{Extracted, extraction_terms}
+use Rattle.plain_trees.specs.Plain.{Plain}
+use Rattle.plain_trees.specs.Coproducts.{Extracted}
 use Rattle.tree_pool.specs.Content.{Content, IsGrown, tree_at, trees_of}
 use Rattle.tree_pool.specs.Forests.{numbers}
 use Rattle.tree_pool.specs.declared.TreeId.{TreeId}
-use Rattle.tree_pool.proofs.Growth.{grown_at, grown_length, grown_trans}
+use Rattle.tree_pool.proofs.Growth.{grown_at, grown_length}
 use Rattle.cutting_sizes.specs.Bounds.{IsBounded, IsSmaller}
 use Rattle.cutting_sizes.specs.Sizes.{node_sum}
-use Rattle.pooled_cuttings.specs.Groves.{GroveContent, IsGrownGrove}
+use Rattle.pooled_cuttings.specs.Groves.{GroveContent}
 use Rattle.extraction_coproduct.specs.declared.term.ExtractTerm.{ExtractTerm}
-use Rattle.extraction_coproduct.specs.Finished.{coproduct_of}
 use Rattle.extraction_coproduct.specs.Terms.{terms_in, whole_terms, key_of}
 use Rattle.pooled_cuttings.specs.Lines.{extracted_in}
 use Rattle.antipode_laws.specs.Weighed.{Weighed}
 use Rattle.twisted_antipode.specs.declared.value.Value.{Value}
-use Rattle.twisted_antipode.specs.RunTerms.{IsCoefficient}
 use Rattle.twisted_antipode.specs.Values.{IsValueOf, product_of, forest_weighed}
 use Rattle.twisted_antipode.specs.Known.{IsPartIn, AreParts, pairs_in, rank}
 use Rattle.twisted_antipode.proofs.PartLaws.{forest_step}
@@ -37,7 +32,7 @@ pub record IsAskedAt (d : Content) (t : Plain) (i : ℕ) : Type 0 where
   pub bounded : IsBounded (tree_at d i)
   pub falls : rank (tree_at d i) < rank t
 
-part_at : (c : Content) (t : Plain) (ids : List TreeId) (j : ℕ) → AreParts c t (numbers ids) → j < length ids → IsPartIn c t (get_or ids j no_tree).0
+pub part_at : (c : Content) (t : Plain) (ids : List TreeId) (j : ℕ) → AreParts c t (numbers ids) → j < length ids → IsPartIn c t (get_or ids j no_tree).0
 part_at c t [] j h l = absurd (omega (arith, l))
 part_at c t (i ∷ ids) zero h l = h.0
 part_at c t (i ∷ ids) (suc j) h l = part_at c t ids j h.1 (omega (arith, l))
@@ -90,18 +85,9 @@ counted_in g (e ∷ ts) = ap (λ (ys : List (Extracted × ℕ)). (extracted_in g
 pub pairs_of_terms : (g : GroveContent) (ts : List ExtractTerm) (xs : List (Extracted × ℕ)) → terms_in g ts ≡ whole_terms xs → pairs_in g ts ≡ xs
 pairs_of_terms g ts xs h = counted_in g ts ∙ ap (map counted) h ∙ back xs
 
-pub coproduct_stays : (c d : Content) (i : ℕ) → IsGrown c d → i < length c.trees → coproduct_of d i ≡ coproduct_of c i
-coproduct_stays c d i g l = ap (λ (ty : Types). extraction_terms ty (tree_at d i)) g.types ∙ ap (extraction_terms c.types) (grown_at c d i g l)
-
 pub if_ok : {T E : Type 0} (r : Result T E) (P R : T → Type 0) → ((v : T) → P v → R v) → IfOk r P → IfOk r R
 if_ok (Ok v) P R f h = f v h
 if_ok (Err e) P R f h = tt
-
-pub grove_trans : (f g h : GroveContent) → IsGrownGrove f g → IsGrownGrove g h → IsGrownGrove f h
-grove_trans f g h m n = record {
-  pool = grown_trans f.pool g.pool h.pool m.pool n.pool;
-  forests = (m.forests.0 ++ n.forests.0, n.forests.1 ∙ ap (λ (xs : List (List ℕ)). xs ++ n.forests.0) m.forests.1 ∙ append_assoc f.forests m.forests.0 n.forests.0);
-}
 
 pub some_value : {V : Type 0} (A : Type 0) (P : V → Type 0) (o : Option V) (v : V) → o ≡ Some v → MatchOption o A P → P v
 some_value A P None v e h = absurd cc

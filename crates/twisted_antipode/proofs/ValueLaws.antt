@@ -1,30 +1,32 @@
 -- The value of one tree, from what is known.
-use Rattle.std.proofs.Common.{rules, ◌≡◌, ◌⊎◌, ℕ, ◌<◌, ◌≤◌, ℤ, pos, unsigned_abs, inl, inr, Bool, true, false, cond, List, [], ◌∷◌, ◌++◌, map, length, Some, None, refl, sym, ap, ◌∙◌, subst, arith}
-use Rattle.std.specs.List.{AllByRecursion, list_all}
+use Rattle.std.proofs.Common.{rules, ◌≡◌, ◌⊎◌, ℕ, ◌<◌, ◌≤◌, ℤ, inl, inr, true, false, cond, List, [], ◌∷◌, ◌++◌, map, length, None, refl, sym, ap, ◌∙◌, subst, arith}
+use Rattle.std.specs.List.{AllByRecursion}
 use Rattle.ordered_lists.specs.Members.{IsIn}
 use Rattle.exact_sums.specs.Saturating.{overflow}
+use Rattle.exact_sums.proofs.SaturatingLaws.{saturating_sum_is}
 use Rattle.degree_numbers.specs.declared.types.Types.{Types}
 use Rattle.plain_trees.specs.Plain.{Plain}
 use Rattle.plain_trees.specs.Degree.{HasTypes, is_empty_tree}
 use Rattle.plain_trees.specs.Coproducts.{Extracted, extraction_terms}
 use Rattle.tree_pool.specs.Content.{Content, IsPooled, IsGrown, tree_at}
 use Rattle.tree_pool.proofs.Growth.{grown_at}
+use Rattle.extraction_coproduct.specs.Finished.{coproduct_of}
 use Rattle.extraction_coproduct.specs.Terms.{AreInRange}
-use Rattle.symbol_polys.specs.declared.poly.Poly.{Poly}
 use Rattle.symbol_polys.specs.Polynomials.{IsPolynomial}
-use Rattle.symbol_polys.specs.View.{IsPoly, terms_of}
-use Rattle.antipode_laws.specs.Weighed.{Weighed, unit, negated_sum, mass_sum}
+use Rattle.symbol_polys.specs.View.{terms_of}
+use Rattle.antipode_laws.specs.Weighed.{Weighed, unit, mass_sum, term_mass}
 use Rattle.antipode_laws.specs.Antipode.{other_terms, are_in_range, from_smaller, value_at}
 use Rattle.antipode_laws.specs.Sameness.{AreSameValues}
 use Rattle.twisted_antipode.specs.declared.quotient.Reading.{Reading}
 use Rattle.twisted_antipode.specs.declared.value.Value.{Value}
+use Rattle.twisted_antipode.specs.declared.value.Value.TheVariants.{TooLarge}
 use Rattle.twisted_antipode.specs.Quotients.{quotient_terms}
-use Rattle.twisted_antipode.specs.Values.{IsPolyOf, IsValueOf}
-use Rattle.twisted_antipode.specs.Held.{Held, weighed_of, with_held, held_over}
-use Rattle.twisted_antipode.specs.Known.{first_held, IsWellHeld, AreWellHeld, IsGood, IsKnownMore, IsHeldAs, IsHeldWith, part_value}
+use Rattle.twisted_antipode.specs.Values.{IsPolyOf, IsValueOf, sum_of}
+use Rattle.twisted_antipode.specs.Held.{Held, weighed_of}
+use Rattle.twisted_antipode.specs.Known.{first_held, IsWellHeld, AreWellHeld, IsGood, IsKnownMore, IsHeldAs, IsHeldWith, other_pairs, part_value}
 use Rattle.twisted_antipode.proofs.Pooled.{kept_at}
-use Rattle.twisted_antipode.proofs.PartLaws.{value_same}
-use Rattle.twisted_antipode.proofs.KnownLaws.{held_first, good_more, with_last, in_last, in_front, well_last, same_poly, self_poly}
+use Rattle.twisted_antipode.proofs.PartLaws.{value_same, parts_joined, parts_of_both}
+use Rattle.twisted_antipode.proofs.KnownLaws.{held_first, good_grown, good_more, with_last, in_last, in_front, well_last, same_poly, self_poly}
 
 typed_at : (c : Content) (i : ℕ) → IsPooled c → i < length c.trees → HasTypes c.types (tree_at c i)
 typed_at c i pooled l = (kept_at c i pooled l).known
@@ -80,7 +82,7 @@ more_kept r c d hs ks ls i v pooled l m (inl same) value = subst (IsKnownMore r 
 more_kept r c d hs ks ls i v pooled l m (inr k) value = with_value r c d hs ks ls i v pooled l m k value
 
 -- the range of the coefficients
-in_range : (xs : List (Extracted × ℕ)) → AllByRecursion (λ (x : Extracted × ℕ). x.1 < overflow) xs → are_in_range xs ≡ true
+pub in_range : (xs : List (Extracted × ℕ)) → AllByRecursion (λ (x : Extracted × ℕ). x.1 < overflow) xs → are_in_range xs ≡ true
 in_range [] h = refl
 in_range (x ∷ xs) h = let first = h.0 in let rest = in_range xs h.1 in search rules
 
@@ -89,3 +91,45 @@ pub from_parts : (r : Reading) (ty : Types) (t : Plain) (a : Plain → Weighed) 
 from_parts r ty t a v range h =
     value_same (part_value r ty a (other_terms ty t)) (from_smaller ty (quotient_terms r ty) a t) v (λ m. refl)
     (sym (ap (λ b. cond b (mass_sum (quotient_terms r ty) a (other_terms ty t)) overflow) range)) h
+
+-- the right side of the recursion from the terms of the coproduct
+from_range : (xs : List (Extracted × ℕ)) → are_in_range xs ≡ true → AreInRange xs
+from_range [] h = tt
+from_range (x ∷ xs) h = let first : x.1 < overflow = search rules in let rest : are_in_range xs ≡ true = search rules in (first, from_range xs rest)
+
+pub not_in_range : (xs : List (Extracted × ℕ)) → (AreInRange xs → ⊥) → are_in_range xs ≡ false
+not_in_range xs h =
+    (elim (are_in_range xs) as (λ b. are_in_range xs ≡ b → b ≡ false) [
+      | true ↦ λ e. absurd (h (from_range xs e))
+      | false ↦ λ e. refl
+    ]) refl
+
+pub from_refused : (r : Reading) (ty : Types) (t : Plain) (a : Plain → Weighed) → (AreInRange (extraction_terms ty t) → ⊥) → IsValueOf (from_smaller ty (quotient_terms r ty) a t) TooLarge
+from_refused r ty t a h =
+    let is : overflow ≡ (from_smaller ty (quotient_terms r ty) a t).mass =
+    sym (ap (λ b. cond b (mass_sum (quotient_terms r ty) a (other_terms ty t)) overflow) (not_in_range (extraction_terms ty t) h)) in
+    omega (arith, is)
+
+pub from_coproduct : (r : Reading) (c d : Content) (hs : List Held) (i : ℕ) (v : Value) → IsGrown c d → AreWellHeld c hs → i < length c.trees → AreInRange (coproduct_of c i) →
+    ((a : Plain → Weighed) → IsGood r d hs a → IsValueOf (part_value r d.types a (other_pairs (tree_at d i) (coproduct_of d i))) v) → (a : Plain → Weighed) → IsGood r c hs a →
+    IsValueOf (from_smaller c.types (quotient_terms r c.types) a (tree_at c i)) v
+from_coproduct r c d hs i v grown well l range value a good =
+    from_parts r c.types (tree_at c i) a v (in_range (extraction_terms c.types (tree_at c i)) range)
+    (subst (λ (ty : Types). IsValueOf (part_value r ty a (other_pairs (tree_at c i) (extraction_terms ty (tree_at c i)))) v) grown.types
+    (subst (λ (s : Plain). IsValueOf (part_value r d.types a (other_pairs s (extraction_terms d.types s))) v) (grown_at c d i grown l) (value a (good_grown r c d hs a grown well good))))
+
+-- the sum over one more run
+pub mass_within : (r : Reading) (ty : Types) (a : Plain → Weighed) (xs : List (Extracted × ℕ)) → (part_value r ty a xs).mass ≤ overflow
+mass_within r ty a xs = let is = saturating_sum_is (map (term_mass (quotient_terms r ty) a) xs) in omega (arith, is)
+
+pub with_more : (r : Reading) (c d : Content) (hs ks : List Held) (i : ℕ) (done more : List (Extracted × ℕ)) (u v : Value) → IsGrown c d → i < length c.trees → IsKnownMore r c d hs ks →
+    ((a : Plain → Weighed) → IsGood r c hs a → IsValueOf (part_value r c.types a (other_pairs (tree_at c i) done)) u) →
+    ((a : Plain → Weighed) (w : Weighed) → IsGood r d ks a → w.mass ≤ overflow → IsValueOf w u → IsValueOf (sum_of w (part_value r d.types a (other_pairs (tree_at d i) more))) v) →
+    (a : Plain → Weighed) → IsGood r c hs a → IsValueOf (part_value r c.types a (other_pairs (tree_at c i) (done ++ more))) v
+with_more r c d hs ks i done more u v grown l m old new a good =
+    let t = tree_at c i in
+    let w = part_value r c.types a (other_pairs t done) in
+    let step = new a w (m.good a good) (mass_within r c.types a (other_pairs t done)) (old a good) in
+    let here = subst (λ (ty : Types). IsValueOf (sum_of w (part_value r ty a (other_pairs t more))) v) grown.types
+    (subst (λ (s : Plain). IsValueOf (sum_of w (part_value r d.types a (other_pairs s more))) v) (grown_at c d i grown l) step) in
+    subst (λ (xs : List (Extracted × ℕ)). IsValueOf (part_value r c.types a xs) v) (sym (parts_of_both t done more)) (parts_joined r c.types a (other_pairs t done) (other_pairs t more) v here)

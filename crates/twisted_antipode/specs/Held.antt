@@ -4,13 +4,20 @@
 --   weighed_of p == the value that the polynomial p is
 --   held_in es == the entries es of a map, as contracts see them
 --   ArePolys es == the polynomials of the entries es are in order
---   with_held hs i w == hs with the value w for the number i: in the place of that which was there, or behind the others
+--   with_held hs i w == hs with the value w for the number i: in the place of that which was there,
+--       or behind the others
 --   IsHeld hs i == some value is held for the number i
 --   held_over c hs == the values that are held, by tree
+--   IsExpectation s == s is the expectation of a tree
 --   AreOverExpectations ts == all symbols of the terms ts are expectations
---   AreHeldOver c hs == the numbers are those of trees of the pool, and the values are polynomials over expectations, with masses in range
---   IsExtended c old new == new holds what old holds, and besides it only constants of their trees
---   IsAntipodeRefused, IsConstantRefused == why there is no antipode, no constant: a coefficient of the extraction coproduct is out of range, or the mass is
+--   IsHeldOver c h == the number is that of a tree of the pool, and the value is a polynomial over
+--       expectations, with a mass in range
+--   AreHeldOver c hs == so is each of hs
+--   IsExtended c old new == new holds what old holds, and besides it only constants of their trees;
+--       what it holds for a tree is the constant of that tree over old
+--   IsAntipodeRefused ty t e == why there is no antipode of t: its mass is out of range
+--   IsConstantRefused ty held t e == why there is no constant of t: it is not held, and a
+--       coefficient of its extraction coproduct is out of range, or else its mass is
 use Rattle.std.specs.Prelude.{◌≡◌, ◌≤◌, ◌<◌, ◌⊎◌, ℕ, ◌==◌, true, false, if◌then◌else◌, unsigned_abs, pos, refl, List, [], ◌∷◌, map, length, Option, Some, None, ⊤}
 use Rattle.std.specs.Coded.{Coded, code_by, coded×, coded_list, coded_ℕ}
 use Rattle.std.specs.List.{AllByRecursion}
@@ -20,6 +27,7 @@ use Rattle.ordered_lists.specs.Members.{IsIn}
 use Rattle.degree_numbers.specs.declared.types.Types.{Types}
 use Rattle.plain_trees.specs.Plain.{Plain, tree_order}
 use Rattle.plain_trees.specs.Coproducts.{extraction_terms}
+use Rattle.plain_trees.specs.Degree.{HasTypes}
 use Rattle.tree_pool.specs.Content.{Content, tree_at}
 use Rattle.tree_pool.specs.declared.TreeId.{TreeId}
 use Rattle.symbol_polys.specs.declared.poly.Poly.{Poly}
@@ -86,16 +94,24 @@ AreHeldOver c hs = AllByRecursion (IsHeldOver c) hs
 
 pub record IsExtended (c : Content) (old new : List Held) : Type 0 where
   pub kept : (h : Held) → IsIn h old → IsIn h new
-  pub added : (a : Plain → Weighed) → IsConstants c.types (held_over c old) a → (h : Held) → IsIn h new → IsIn h old ⊎ AreSameValues h.1 (a (tree_at c h.0))
+  pub added : (a : Plain → Weighed) → IsConstants c.types (held_over c old) a → (h : Held) →
+      IsIn h new → IsIn h old ⊎ AreSameValues h.1 (a (tree_at c h.0))
+  pub values : (a : Plain → Weighed) → IsConstants c.types (held_over c old) a →
+      (t : Plain) (w : Weighed) → HasTypes c.types t → held_over c new t ≡ Some w →
+      AreSameValues w (a t)
 
 abbrev pub IsAntipodeRefused : Types → Plain → AntipodeError → Type 0
 IsAntipodeRefused ty t Memory = ⊤
 IsAntipodeRefused ty t (CoefficientTooLarge Extraction) = ⊥
-IsAntipodeRefused ty t (CoefficientTooLarge Antipode) = (a : Plain → Weighed) → IsAntipode ty a → overflow ≤ (a t).mass
+IsAntipodeRefused ty t (CoefficientTooLarge Antipode) =
+    (a : Plain → Weighed) → IsAntipode ty a → overflow ≤ (a t).mass
 IsAntipodeRefused ty t (CoefficientTooLarge Constant) = ⊥
 
 abbrev pub IsConstantRefused : Types → (Plain → Option Weighed) → Plain → AntipodeError → Type 0
 IsConstantRefused ty held t Memory = ⊤
-IsConstantRefused ty held t (CoefficientTooLarge Extraction) = (held t ≡ None) × (are_in_range (extraction_terms ty t) ≡ false)
+IsConstantRefused ty held t (CoefficientTooLarge Extraction) =
+    (held t ≡ None) × (are_in_range (extraction_terms ty t) ≡ false)
 IsConstantRefused ty held t (CoefficientTooLarge Antipode) = ⊥
-IsConstantRefused ty held t (CoefficientTooLarge Constant) = (held t ≡ None) × (are_in_range (extraction_terms ty t) ≡ true) × ((c : Plain → Weighed) → IsConstants ty held c → overflow ≤ (c t).mass)
+IsConstantRefused ty held t (CoefficientTooLarge Constant) =
+    (held t ≡ None) × (are_in_range (extraction_terms ty t) ≡ true)
+    × ((c : Plain → Weighed) → IsConstants ty held c → overflow ≤ (c t).mass)

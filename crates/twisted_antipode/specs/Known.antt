@@ -1,15 +1,21 @@
--- What is known of the values of trees, by the numbers of the trees, while values of more trees are asked.
+-- What is known of the values of trees, by the numbers of the trees, while values of more trees are
+-- asked.
 --   first_held hs i == the first value of hs for the number i
---   IsWellHeld c h == the number is that of a tree of the pool, and the value is a polynomial with a mass in range
+--   IsWellHeld c h == the number is that of a tree of the pool, and the value is a polynomial with
+--       a mass in range
 --   AreWellHeld c hs == so is each of hs
---   IsGood reading c hs a == the function a has the values hs, up to the order of their terms; no mass passes the overflow; at each other tree it solves the recursion
+--   IsGood reading c hs a == the function a has the values hs, up to the order of their terms; no
+--       mass passes the overflow; at each other tree it solves the recursion
 --   IsValueIn reading c hs t v == v stands for the value that each such function gives the tree t
---   IsKnownMore reading c d hs ks == ks holds what hs holds, and besides it only values of such functions
+--   IsKnownMore reading c d hs ks == ks holds what hs holds, and besides it only values of such
+--       functions
 --   IsHeldAs hs i v == v stands for the first value of hs for the number i
---   IsHeldWith hs ks i v == ks is hs with a polynomial that v is, for the number i for which nothing was held
+--   IsHeldWith hs ks i v == ks is hs with a polynomial that v is, for the number i for which
+--       nothing was held
 --   pairs_in g es == the terms es, as forests and quotients with their coefficients
 --   other_pairs t xs == the terms xs without that of the whole tree t
---   part_value reading ty a xs == the part of the right side of the recursion that the terms xs make
+--   part_value reading ty a xs == the part of the right side of the recursion that the terms xs
+--       make
 --   IsPartIn c t i == the tree with the number i is bounded and smaller than t
 --   AreParts c t is == so is each with a number in is
 --   IsRun g xs f es == es are some of the terms xs, all with the forest f
@@ -42,7 +48,6 @@ use Rattle.twisted_antipode.specs.Quotients.{quotient_terms}
 use Rattle.twisted_antipode.specs.RunTerms.{IsCoefficient}
 use Rattle.symbol_polys.specs.declared.poly.Poly.{Poly}
 use Rattle.symbol_polys.specs.View.{IsPoly}
-use Rattle.tree_pool.specs.declared.TreeId.{TreeId}
 use Rattle.tree_pool.specs.declared.ForestId.{ForestId}
 use Rattle.extraction_coproduct.specs.Terms.{AreKnownTerms}
 use Rattle.twisted_antipode.specs.Values.{IsValueOf, IsPolyOf}
@@ -60,10 +65,15 @@ pub record IsWellHeld (c : Content) (h : Held) : Type 0 where
 abbrev pub AreWellHeld : Content → List Held → Type 0
 AreWellHeld c hs = AllByRecursion (IsWellHeld c) hs
 
-pub record IsGood (reading : Reading) (c : Content) (hs : List Held) (a : Plain → Weighed) : Type 0 where
-  pub entries : (t : Plain) (w : Weighed) → HasTypes c.types t → held_over c hs t ≡ Some w → AreSameValues w (a t)
+pub record IsGood (reading : Reading) (c : Content) (hs : List Held) (a : Plain → Weighed) :
+    Type 0 where
+  pub entries :
+      (t : Plain) (w : Weighed) → HasTypes c.types t → held_over c hs t ≡ Some w →
+      AreSameValues w (a t)
   pub most : (t : Plain) → HasTypes c.types t → (a t).mass ≤ overflow
-  pub solves : (t : Plain) → HasTypes c.types t → held_over c hs t ≡ None → a t ≡ value_at c.types (quotient_terms reading c.types) None a t
+  pub solves :
+      (t : Plain) → HasTypes c.types t → held_over c hs t ≡ None →
+      a t ≡ value_at c.types (quotient_terms reading c.types) None a t
 
 abbrev pub IsValueIn : Reading → Content → List Held → Plain → Value → Type 0
 IsValueIn reading c hs t v = (a : Plain → Weighed) → IsGood reading c hs a → IsValueOf (a t) v
@@ -71,7 +81,9 @@ IsValueIn reading c hs t v = (a : Plain → Weighed) → IsGood reading c hs a �
 pub record IsKnownMore (reading : Reading) (c d : Content) (hs ks : List Held) : Type 0 where
   pub good : (a : Plain → Weighed) → IsGood reading c hs a → IsGood reading d ks a
   pub kept : (h : Held) → IsIn h hs → IsIn h ks
-  pub added : (a : Plain → Weighed) → IsGood reading c hs a → (h : Held) → IsIn h ks → IsIn h hs ⊎ AreSameValues h.1 (a (tree_at d h.0))
+  pub added :
+      (a : Plain → Weighed) → IsGood reading c hs a → (h : Held) → IsIn h ks →
+      IsIn h hs ⊎ AreSameValues h.1 (a (tree_at d h.0))
   pub held : AreWellHeld d ks
 
 abbrev pub pairs_in : GroveContent → List ExtractTerm → List (Extracted × ℕ)
@@ -81,7 +93,10 @@ abbrev pub other_pairs : Plain → List (Extracted × ℕ) → List (Extracted �
 other_pairs t xs = filter (λ x. not (is_eq (extracted_order x.0 (canon t ∷ [], empty_tree)))) xs
 
 abbrev pub part_value : Reading → Types → (Plain → Weighed) → List (Extracted × ℕ) → Weighed
-part_value reading ty a xs = record { terms = negated_sum (quotient_terms reading ty) a xs; mass = mass_sum (quotient_terms reading ty) a xs }
+part_value reading ty a xs = record {
+  terms = negated_sum (quotient_terms reading ty) a xs;
+  mass = mass_sum (quotient_terms reading ty) a xs;
+}
 
 pub record IsPartIn (c : Content) (t : Plain) (i : ℕ) : Type 0 where
   pub known : i < length c.trees
@@ -107,12 +122,14 @@ pub record IsHeldWith (hs ks : List Held) (i : ℕ) (v : Value) : Type 0 where
   pub range : unsigned_abs poly.mass < overflow
   pub value : (w : Weighed) → w.mass ≤ overflow → IsValueOf w v → IsPolyOf w poly
 
-pub record IsRun (g : GroveContent) (xs : List (Extracted × ℕ)) (f : ForestId) (es : List ExtractTerm) : Type 0 where
+pub record IsRun (g : GroveContent) (xs : List (Extracted × ℕ)) (f : ForestId)
+    (es : List ExtractTerm) : Type 0 where
   pub known : AreKnownTerms g es
   pub numbers : AllByRecursion (λ e. IsCoefficient e.coefficient) es
   pub forest : AllByRecursion (λ e. e.forest ≡ f) es
   pub listed : AllByRecursion (λ x. IsIn x xs) (pairs_in g es)
 
-pub record IsRunOf (g : GroveContent) (xs : List (Extracted × ℕ)) (es : List ExtractTerm) : Type 0 where
+pub record IsRunOf (g : GroveContent) (xs : List (Extracted × ℕ)) (es : List ExtractTerm) :
+    Type 0 where
   pub some : 0 < length es
   pub forest : (d : ExtractTerm) → IsRun g xs (get_or es 0 d).forest es

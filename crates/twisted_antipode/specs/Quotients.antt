@@ -1,5 +1,6 @@
 -- Which values quotients have.
---   quotient_terms reading ty q == the tree q as a symbol, for the antipode, or its expectation, for constants
+--   quotient_terms reading ty q == the tree q as a symbol, for the antipode, or its expectation,
+--       for constants
 --   quotient_value reading ty q == the same with its mass, which is 1, or 0 where nothing is there
 --   one_or_none b == 1 or 0
 use Rattle.std.specs.Prelude.{ℕ, Bool, if◌then◌else◌, List}
@@ -20,4 +21,7 @@ abbrev pub one_or_none : Bool → ℕ
 one_or_none b = if b then 1 else 0
 
 abbrev pub quotient_value : Reading → Types → Plain → Weighed
-quotient_value reading ty q = record { terms = quotient_terms reading ty q; mass = one_or_none (has_terms (quotient_terms reading ty q)) }
+quotient_value reading ty q = record {
+  terms = quotient_terms reading ty q;
+  mass = one_or_none (has_terms (quotient_terms reading ty q));
+}

@@ -1,9 +1,11 @@
 -- Terms of an extraction coproduct with one forest, by numbers.
 --   IsCoefficient z == z is above 0 and in range
---   IsRunTerm c e == the quotient of the term e is a tree of the pool, and its coefficient is such a number
+--   IsRunTerm c e == the quotient of the term e is a tree of the pool, and its coefficient is such
+--       a number
 --   quotients_in c es == the quotients of the terms es, each with its coefficient
 --   multiple_of n w == n times a value
---   run_value reading ty qs == the sum of coefficient times value of the quotient, with the sum of the coefficients of those that count as its mass
+--   run_value reading ty qs == the sum of coefficient times value of the quotient, with the sum of
+--       the coefficients of those that count as its mass
 use Rattle.std.specs.Prelude.{◌≡◌, ◌<◌, ℕ, ℤ, pos, unsigned_abs, List, length, map}
 use Rattle.exact_sums.specs.Saturating.{overflow, saturating_times}
 use Rattle.degree_numbers.specs.declared.types.Types.{Types}
@@ -32,4 +34,7 @@ abbrev pub multiple_of : ℕ → Weighed → Weighed
 multiple_of n w = record { terms = times_all (pos n) w.terms; mass = saturating_times n w.mass }
 
 abbrev pub run_value : Reading → Types → List (Plain × ℕ) → Weighed
-run_value reading ty qs = record { terms = quotient_sum (quotient_terms reading ty) qs; mass = quotient_mass (quotient_terms reading ty) qs }
+run_value reading ty qs = record {
+  terms = quotient_sum (quotient_terms reading ty) qs;
+  mass = quotient_mass (quotient_terms reading ty) qs;
+}

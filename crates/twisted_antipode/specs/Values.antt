@@ -1,11 +1,13 @@
--- Values as the program makes them: a polynomial with its mass, or only that the mass is out of range.
+-- Values as the program makes them: a polynomial with its mass, or only that the mass is out of
+-- range.
 --   IsPolyOf w p == the polynomial p has the coefficients and the mass of w
 --   IsValueOf w v == v stands for w: it is such a polynomial, or the mass of w is out of range
---   IsInRange v == where v is a polynomial, its mass is in range
+--   IsPolyInRange p == p is a polynomial with its mass, which is in range
 --   forest_weighed a fs == the product of the values that a gives the trees fs
---   IsKept v == where v is a polynomial, it is one with its mass
+--   IsKept v == where v is a polynomial, it is one with a mass in range
 --   nothing_value, symbol_value s == the value 0, the value that is a symbol
---   sum_of w u, product_of w u, negative_of w == the sum and the product of two values, and minus a value
+--   sum_of w u, product_of w u, negative_of w == the sum and the product of two values, and minus a
+--       value
 use Rattle.std.specs.Prelude.{◌≡◌, ◌≤◌, ◌<◌, pos, neg_ℤ, unsigned_abs, List, [], ◌++◌, ⊤}
 use Rattle.exact_sums.specs.Saturating.{overflow, saturating_plus, saturating_times}
 use Rattle.symbol_polys.specs.declared.poly.Poly.{Poly}
@@ -26,13 +28,13 @@ abbrev pub IsValueOf : Weighed → Value → Type 0
 IsValueOf w (Sum p) = IsPolyOf w p
 IsValueOf w TooLarge = overflow ≤ w.mass
 
-abbrev pub IsKept : Value → Type 0
-IsKept (Sum p) = IsPoly p
-IsKept TooLarge = ⊤
+pub record IsPolyInRange (p : Poly) : Type 0 where
+  pub poly : IsPoly p
+  pub range : unsigned_abs p.mass < overflow
 
-abbrev pub IsInRange : Value → Type 0
-IsInRange (Sum p) = unsigned_abs p.mass < overflow
-IsInRange TooLarge = ⊤
+abbrev pub IsKept : Value → Type 0
+IsKept (Sum p) = IsPolyInRange p
+IsKept TooLarge = ⊤
 
 abbrev pub forest_weighed : (Plain → Weighed) → List Plain → Weighed
 forest_weighed a fs = record { terms = forest_terms a fs; mass = forest_mass a fs }

@@ -1,7 +1,8 @@
 // The sum of the quotients of terms with one forest.
-ghost use Rattle.std.specs.Prelude.{◌≤◌, ◌<◌, ◌≡◌, unsigned_abs, length, take, get_or, IfOk, IsOkUnless};
+ghost use Rattle.std.specs.Prelude.{◌≤◌, ◌<◌, ◌≡◌, ◌↔◌, ◌∷◌, [], unsigned_abs, length, take, get_or, IfOk, IsOkUnless, IsTrue};
 ghost use Rattle.std.specs.List.{AllByRecursion};
 ghost use Rattle.tree_pool.specs.Content.{tree_at};
+ghost use Rattle.tree_pool.specs.Forests.{numbers};
 ghost use Rattle.antipode_laws.specs.Weighed.{Weighed};
 ghost use Rattle.twisted_antipode.specs.Values.{IsValueOf, IsKept, sum_of, product_of, negative_of};
 ghost use Rattle.twisted_antipode.specs.Quotients.{quotient_value};
@@ -14,7 +15,7 @@ use crate::value::{Value, negative, product, sum};
 use extraction_coproduct::ExtractTerm;
 use std::alloc::Global;
 use symbol_polys::{PolyError, scale};
-use tree_pool::Pool;
+use tree_pool::{Pool, TreeId};
 
 /// A value times a coefficient.
 fn multiple(alloc: Global, a: &Value, by: i128) -> Result<Value, PolyError>
@@ -102,7 +103,8 @@ pub(crate) fn run_length(terms: &[ExtractTerm]) -> usize
     requires { 0 < length terms.now }
     ensures some { 0 < result }
     ensures most { result ≤ length terms.now }
-    ensures forest { (d : ExtractTerm) → AllByRecursion (λ e. e.forest ≡ (get_or terms.now 0 d).forest) (take result terms.now) }
+    ensures forest { (d : ExtractTerm) → AllByRecursion
+        (λ e. e.forest ≡ (get_or terms.now 0 d).forest) (take result terms.now) }
 {
     let forest = terms[0].forest;
     let mut i = 1;
@@ -110,4 +112,14 @@ pub(crate) fn run_length(terms: &[ExtractTerm]) -> usize
         i += 1;
     }
     i
+}
+
+/// Whether a forest is one tree alone.
+pub(crate) fn is_alone(trees: &[TreeId], id: TreeId) -> bool
+    ensures { IsTrue result ↔ (numbers trees.now ≡ id.0 ∷ []) }
+{
+    match trees {
+        [tree] => *tree == id,
+        _ => false,
+    }
 }

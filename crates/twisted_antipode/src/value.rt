@@ -1,9 +1,11 @@
-// Values of trees, and their arithmetic. A value whose mass is out of range is one all the same: times 0 it is 0.
-ghost use Rattle.std.specs.Prelude.{◌≡◌, ◌≤◌, IfOk, IsOkUnless, IsTrue};
+// Values of trees, and their arithmetic. A value whose mass is out of range is one all the same:
+// times 0 it is 0.
+ghost use Rattle.std.specs.Prelude.{◌≡◌, ◌≤◌, [], IfOk, IsOkUnless, IsTrue};
 ghost use Rattle.exact_sums.specs.Saturating.{overflow};
+ghost use Rattle.symbol_polys.specs.Polynomials.{HaveSameCoefficients};
 ghost use Rattle.symbol_polys.specs.View.{IsPoly};
 ghost use Rattle.antipode_laws.specs.Weighed.{Weighed, unit};
-ghost use Rattle.twisted_antipode.specs.Values.{IsPolyOf, IsValueOf, IsKept, IsInRange, sum_of, product_of, negative_of};
+ghost use Rattle.twisted_antipode.specs.Values.{IsPolyOf, IsValueOf, IsKept, IsPolyInRange, sum_of, product_of, negative_of};
 
 use std::alloc::Global;
 use symbol_polys::{Poly, PolyError, add, mul, one, scale, zero};
@@ -31,7 +33,8 @@ pub(crate) fn sum(alloc: Global, a: &Value, b: &Value) -> Result<Value, PolyErro
     requires a { IsKept a.now }
     requires b { IsKept b.now }
     ensures kept { IfOk result IsKept }
-    ensures value { IfOk result (λ v. (w u : Weighed) → IsValueOf w a.now → IsValueOf u b.now → IsValueOf (sum_of w u) v) }
+    ensures value { IfOk result (λ v. (w u : Weighed) → IsValueOf w a.now → IsValueOf u b.now →
+        IsValueOf (sum_of w u) v) }
     ensures memory { IsOkUnless result PolyError.Memory }
 {
     match (a, b) {
@@ -46,7 +49,7 @@ pub(crate) fn sum(alloc: Global, a: &Value, b: &Value) -> Result<Value, PolyErro
 
 /// The product of a polynomial and a value whose mass is out of range.
 fn product_with_large(alloc: Global, f: &Poly) -> Result<Value, PolyError>
-    requires { IsPoly f.now }
+    requires { IsPolyInRange f.now }
     ensures kept { IfOk result IsKept }
     ensures value { IfOk result (λ v. (w u : Weighed) → IsPolyOf w f.now → overflow ≤ u.mass →
         IsValueOf (product_of w u) v × IsValueOf (product_of u w) v) }
@@ -104,7 +107,6 @@ pub(crate) fn copy_poly(alloc: Global, f: &Poly) -> Result<Value, PolyError>
     ensures kept { IfOk result IsKept }
     ensures value { IfOk result (λ v. (w : Weighed) → w.mass ≤ overflow → IsPolyOf w f.now →
         IsValueOf w v) }
-    ensures range { IfOk result IsInRange }
     ensures memory { IsOkUnless result PolyError.Memory }
 {
     match scale(alloc, f, 1) {
@@ -120,7 +122,6 @@ pub(crate) fn copy(alloc: Global, a: &Value) -> Result<Value, PolyError>
     ensures kept { IfOk result IsKept }
     ensures value { IfOk result (λ v. (w : Weighed) → w.mass ≤ overflow → IsValueOf w a.now →
         IsValueOf w v) }
-    ensures range { IfOk result IsInRange }
     ensures memory { IsOkUnless result PolyError.Memory }
 {
     match a {
@@ -131,7 +132,10 @@ pub(crate) fn copy(alloc: Global, a: &Value) -> Result<Value, PolyError>
 
 /// Whether a value is 0.
 pub(crate) fn is_nothing(a: &Value) -> bool
-    ensures { IsTrue result → (w : Weighed) → IsValueOf w a.now → w.mass ≡ 0 }
+    requires { IsKept a.now }
+    ensures mass { IsTrue result → (w : Weighed) → IsValueOf w a.now → w.mass ≡ 0 }
+    ensures terms { IsTrue result → (w : Weighed) → IsValueOf w a.now →
+        HaveSameCoefficients w.terms [] }
 {
     match a {
         Value::Sum(f) => f.mass == 0,

@@ -1,5 +1,4 @@
-use Rattle.std.proofs.Common.{◌<◌, ◌≤◌, arith}
-use Rattle.exact_sums.specs.Saturating.{overflow}
+use Rattle.std.proofs.Common.{arith}
 use Rattle.twisted_antipode.specs.Held.{weighed_of}
 use Rattle.twisted_antipode.proofs.KnownLaws.{first_well, self_poly}
 use Rattle.twisted_antipode.proofs.keeping.held_value.Goals as goal

@@ -1,6 +1,5 @@
-use Rattle.std.proofs.Common.{length, ◌-◌, ◌≤◌, ◌<◌, ◌≡◌, take, get_or}
+use Rattle.std.proofs.Common.{length, ◌-◌, ◌≤◌, ◌<◌, ◌≡◌, take}
 use Rattle.std.specs.List.{AllByRecursion}
-use Rattle.extraction_coproduct.specs.declared.term.ExtractTerm.{ExtractTerm}
 use Rattle.twisted_antipode.proofs.runs.run_length.Given as goal
 
 abbrev pub invariant-loop-i : goal.invariant-loop-i

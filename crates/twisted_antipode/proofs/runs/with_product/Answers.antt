@@ -1,4 +1,4 @@
-use Rattle.std.proofs.Common.{◌≤◌, arith}
+use Rattle.std.proofs.Common.{arith}
 use Rattle.twisted_antipode.specs.Values.{product_of, negative_of}
 use Rattle.twisted_antipode.proofs.runs.with_product.Goals as goal
 
