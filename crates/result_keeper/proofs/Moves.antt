@@ -1,5 +1,5 @@
 -- What a migration leaves: each row under the new context of its own.
-use Rattle.std.proofs.Common.{◌≡◌, ℕ, ◌||◌, List, [], ◌∷◌, map, Bool, true, false, cond, Some, unwrap_or, refl, sym, ap, ◌∙◌}
+use Rattle.std.proofs.Common.{◌≡◌, ℕ, ◌||◌, List, [], ◌∷◌, ◌++◌, map, Bool, true, false, cond, Some, unwrap_or, refl, sym, ap, ◌∙◌}
 use Rattle.std.specs.Ordering.{eq_by_cmp, is_eq}
 use Rattle.std.specs.Cmp.{Equal-is, tied_itself}
 use Rattle.std.specs.Str.{bytes_eq}
@@ -145,3 +145,15 @@ pub moves : (ps : Pairs) (es : List Entry) → AreApart row_cmp es → map (λ q
 moves ps es apart olds d =
     let m : Rows = from_entries es in
     same_in_any_order row_cmp row_total bytes_cmp bytes_total row_exact bytes_exact (map (moved ps) es) (map (moved ps) (entries m)) (moves_apart ps es apart olds d) (IsPermutation-map (moved ps) es (entries m) (entries_permute row_cmp row_total es apart))
+
+one_more : (ps : Pairs) (p : List ℕ × List ℕ) (c : List ℕ) → AllByRecursion (λ q. bytes_eq q.1 p.0 ≡ false) ps → new_context (p ∷ []) (new_context ps c) ≡ new_context (ps ++ p ∷ []) c
+one_more [] p c a = refl
+one_more (q ∷ ps) p c a =
+    (elim (bytes_eq c q.0) as (λ b. bytes_eq c q.0 ≡ b → new_context (p ∷ []) (new_context (q ∷ ps) c) ≡ new_context (q ∷ ps ++ p ∷ []) c) [
+      | true ↦ λ h. ap (new_context (p ∷ [])) (new_context-same q ps c h) ∙ new_context-other p [] q.1 a.0 ∙ sym (new_context-same q (ps ++ p ∷ []) c h)
+      | false ↦ λ h. ap (new_context (p ∷ [])) (new_context-other q ps c h) ∙ one_more ps p c a.1 ∙ sym (new_context-other q (ps ++ p ∷ []) c h)
+    ]) refl
+
+-- a row that is moved by some pairs, and then by one more whose old context is none of their new ones
+pub moved_then : (ps : Pairs) (p : List ℕ × List ℕ) (e : Entry) → AllByRecursion (λ q. bytes_eq q.1 p.0 ≡ false) ps → moved (p ∷ []) (moved ps e) ≡ moved (ps ++ p ∷ []) e
+moved_then ps p e a = ap (λ (c : List ℕ). ((c, e.0.1), e.1)) (one_more ps p e.0.0 a)

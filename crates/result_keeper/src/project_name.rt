@@ -1,5 +1,5 @@
 // Names of projects.
-ghost use Rattle.std.specs.Prelude.{◌≡◌, ◌≤◌, ◌-◌, ◌++◌, length, replicate, is_some, IfSome};
+ghost use Rattle.std.specs.Prelude.{◌≡◌, ◌≤◌, ◌-◌, ◌++◌, true, length, replicate, is_some, IfSome};
 ghost use Rattle.std.specs.List.{list_all};
 ghost use Rattle.result_keeper.specs.ProjectName.{is_project_start, is_project_byte, is_project_name};
 
@@ -102,9 +102,10 @@ impl ProjectName {
         })
     }
 
-    /// The text.
+    /// The text: that of a project's name.
     pub fn bytes(&self) -> &[u8]
-        ensures { result.now ≡ self.now }
+        ensures text { result.now ≡ self.now }
+        ensures name { is_project_name result.now ≡ true }
     {
         &self.buf[..self.len]
     }

@@ -1,5 +1,5 @@
 -- What the list of the contexts answers.
-use Rattle.std.proofs.Common.{◌≡◌, ℕ, zero, suc, ◌<◌, ◌||◌, List, [], ◌∷◌, ◌++◌, length, get_or, map, Bool, true, false, Ok, Err, Result, inl, inr, refl, sym, ap, subst, ◌∙◌, arith, IfOk, Vec, Global, All, Ordering, Less, Equal, Greater, is_lt}
+use Rattle.std.proofs.Common.{◌≡◌, ℕ, suc, ◌||◌, List, [], ◌∷◌, ◌++◌, map, Bool, true, false, Ok, Err, Result, inl, inr, refl, sym, ap, subst, ◌∙◌, arith, IfOk, Vec, Global, All, Ordering, Less, Equal, Greater, is_lt}
 use Rattle.std.specs.List.{flat_map, AllByRecursion, IsDistinct, list_any, dedup}
 use Rattle.std.specs.List.Sorted.{IsPermutation, IsSorted, IsStrictlySortedBy}
 use Rattle.std.specs.Ordering.{on, is_eq, eq_by_cmp, ordering_reverse}
@@ -10,20 +10,19 @@ use Rattle.std.proofs.lemmas.Simd.{map-map}
 use Rattle.std.proofs.lemmas.Map.Text.{is_eq-slice_cmp}
 use Rattle.std.proofs.lemmas.Map.Keys.{IsDistinct-IsPermutation}
 use Rattle.std.proofs.lemmas.List.Kept.{IsStrictlySortedBy-dedup}
-use Rattle.std.proofs.lemmas.List.Elements.{All-map}
+use Rattle.std.proofs.lemmas.List.Elements.{All-map, All-from_recursion, recursion_from_All}
 use Rattle.std.proofs.lemmas.List.Sorted.{IsPermutation-map, All-permutation, list_any-IsPermutation}
 use Rattle.sqlite_value.proofs.OrderLemmas.{value_cmp-Blob, then-Equal}
 use Rattle.sqlite_sql.specs.Group.{members}
 use Rattle.sqlite_value.specs.Keys.{collated_cmp}
 use Rattle.sqlite.specs.Tree.{IsAscending}
 use Rattle.sqlite.specs.declared.error.Error.{Error}
-use Rattle.sqlite.specs.declared.types.Value.TheVariants.{Null, Blob}
+use Rattle.sqlite.specs.declared.types.Value.TheVariants.{Blob}
 use Rattle.sqlite.specs.Collation.TheVariants.{Binary}
 use Rattle.sqlite.specs.Order.{Row, column, value_cmp}
 use Rattle.sqlite.specs.Query.{IsAnswer, output, Output}
 use Rattle.sqlite.specs.Program.{overlay}
 use Rattle.sqlite.specs.State.{State, Shown}
-use Rattle.sqlite.proofs.Callers.{reads_as}
 use Rattle.ordered_lists.specs.Members.{IsIn}
 use Rattle.ordered_lists.proofs.Insertion.{strictly_sorted_unique}
 use Rattle.ordered_lists.proofs.Unique.{sorted-rest}
@@ -33,9 +32,8 @@ use Rattle.result_keeper.proofs.Orders.{bytes_total, bytes_exact, row_total}
 use Rattle.result_keeper.proofs.Maps.{entries_permute}
 use Rattle.result_keeper.proofs.Ordered.{sorted_map, sorted_contexts}
 use Rattle.result_keeper.proofs.Moves.{among-dedup, bytes_itself, same_bytes}
-use Rattle.sqlite_keeper.specs.Schema.{store_schema}
 use Rattle.sqlite_keeper.specs.Tables.{result_rows, result_entry, results_in, shown_text, IsResultRow, IsStore}
-use Rattle.sqlite_keeper.proofs.Statements.{contexts_text, contexts_query, contexts_is, contexts_plain}
+use Rattle.sqlite_keeper.proofs.Statements.{answer_of, contexts_text, contexts_query, contexts_is}
 use Rattle.sqlite_keeper.proofs.Sorting.{sorted_alike, first_cmp, first_bytes, IsBlobFirst, blob_first}
 
 abbrev Texts : Type 0
@@ -67,15 +65,6 @@ out_bytes x y p q =
 
 abbrev Group : Type 0
 Group = Output × List Output
-
-by_members : {X : Type 0} (P : X → Type 0) (xs : List X) → All P xs → AllByRecursion P xs
-by_members P [] h = tt
-by_members P (x ∷ xs) h = (h 0 x (omega arith), by_members P xs (λ k d l. h (suc k) d (omega arith)))
-
-all_at : {X : Type 0} (P : X → Type 0) (xs : List X) → AllByRecursion P xs → (k : ℕ) (d : X) → k < length xs → P (get_or xs k d)
-all_at P [] a k d l = absurd (omega arith)
-all_at P (x ∷ xs) a zero d l = a.0
-all_at P (x ∷ xs) a (suc k) d l = all_at P xs a.1 k d (omega arith)
 
 -- what holds of all elements holds of the members of the groups
 split : (P : Output → Type 0) (xs ys : List Output) → AllByRecursion P (xs ++ ys) → AllByRecursion P xs × AllByRecursion P ys
@@ -180,17 +169,16 @@ contexts_of_rows old new rows is h =
     let all = result_rows old.now in
     let es = map result_entry all in
     let m : Rows = from_entries es in
-    let got = reads_as contexts_text [] old new store_schema is.schema _ contexts_is.0 contexts_plain contexts_is.1 rows h in
-    let a : IsAnswer contexts_query (overlay old.now.trees []) [] rows = got.answer Null in
+    let a : IsAnswer contexts_query (overlay old.now.trees []) [] rows = answer_of contexts_text contexts_query _ contexts_is [] old new rows is.schema h in
     let outs = map shown_row all in
     let staged : map (output contexts_query) a.staged ≡ outs = ap (map (output contexts_query)) a.grouped ∙ shows_is all in
     let groups = a.distinct.0 in
     let part = a.distinct.1 in
     let there : IsPermutation outs (flat_map members groups) = subst (λ l. IsPermutation l (flat_map members groups)) staged part.same in
-    let good = by_members IsContextOutput (flat_map members groups) (All-permutation IsContextOutput outs (flat_map members groups) there (context_output all is.results)) in
+    let good = recursion_from_All IsContextOutput (flat_map members groups) (All-permutation IsContextOutput outs (flat_map members groups) there (context_output all is.results.typed)) in
     let firsts = map (λ (g : Group). g.0) groups in
     let moved : IsPermutation firsts a.ordered = subst (λ k. IsPermutation k a.ordered) a.distinct.2 a.same in
-    let outputs : All IsContextOutput a.ordered = All-permutation IsContextOutput firsts a.ordered moved (all_at IsContextOutput firsts (good_firsts groups good)) in
+    let outputs : All IsContextOutput a.ordered = All-permutation IsContextOutput firsts a.ordered moved (All-from_recursion IsContextOutput firsts (good_firsts groups good)) in
     let cs = map first_bytes a.ordered in
     let up : IsSorted bytes_cmp cs = sorted_map first_bytes bytes_cmp bytes_total a.ordered (sorted_alike first_cmp (on first_bytes bytes_cmp) IsBlobFirst blob_first a.ordered (λ k d l. (outputs k d l).blob) a.sorted) in
     let spread = IsPermutation-map first_bytes firsts a.ordered moved in
@@ -198,7 +186,7 @@ contexts_of_rows old new rows is h =
     let kept = map (λ (k : List ℕ × List ℕ). k.0) (keys m) in
     let right = IsStrictlySortedBy-dedup bytes_total (λ x y. sym (is_eq-slice_cmp x y)) kept (sorted_contexts (entries m) (entries_sorted m)) in
     let contexts : map first_bytes outs ≡ map (λ k. k.0) (map (λ e. e.0) es) = map-map first_bytes shown_row all ∙ sym (map-map (λ k. k.0) (λ r. (result_entry r).0) all) ∙ ap (map (λ k. k.0)) (sym (map-map (λ e. e.0) result_entry all)) in
-    let whole = IsPermutation-map (λ k. k.0) (map (λ e. e.0) es) (keys m) (IsPermutation-map (λ e. e.0) es (entries m) (entries_permute row_cmp row_total es is.keys)) in
+    let whole = IsPermutation-map (λ k. k.0) (map (λ e. e.0) es) (keys m) (IsPermutation-map (λ e. e.0) es (entries m) (entries_permute row_cmp row_total es is.results.apart)) in
     let alike = λ (q : List ℕ).
     sym (list_any-IsPermutation (bytes_eq q) (map first_bytes firsts) cs spread)
     ∙ firsts_any q groups good part.alike

@@ -1,5 +1,5 @@
 -- What counting the rows of a table answers.
-use Rattle.std.proofs.Common.{◌≡◌, ℕ, suc, ℤ, filter, min, pos, negsuc, nat_le, codes, List, [], ◌∷◌, map, length, slice_index_or, true, false, Some, refl, sym, ap, subst, ◌∙◌, arith}
+use Rattle.std.proofs.Common.{◌≡◌, ℕ, suc, ℤ, filter, min, pos, negsuc, nat_le, nat_lt, codes, List, [], ◌∷◌, map, length, slice_index_or, true, false, Some, refl, sym, ap, subst, ◌∙◌, arith}
 use Rattle.std.specs.List.{AllZip, flat_map}
 use Rattle.std.specs.List.Sorted.{IsPermutation}
 use Rattle.std.specs.FinMap.{len}
@@ -9,15 +9,14 @@ use Rattle.std.proofs.lemmas.List.Sorted.{length_permutation}
 use Rattle.sqlite.specs.declared.types.Value.{Value}
 use Rattle.sqlite.specs.declared.types.Value.TheVariants.{Int, Null}
 use Rattle.sqlite.specs.Collation.TheVariants.{Binary}
-use Rattle.sqlite.specs.Command.TheVariants.{Select}
 use Rattle.sqlite.specs.Order.{Row, column}
 use Rattle.sqlite.specs.Term.{Env, lit, col}
 use Rattle.sqlite.specs.Query.{Query, IsAnswer, output, Output, inner, end}
 use Rattle.sqlite.specs.Program.{overlay}
-use Rattle.sqlite.specs.Listing.{understood, reads_listing}
+use Rattle.sqlite.specs.Listing.{understood}
 use Rattle.sqlite.specs.State.{State, Shown}
 use Rattle.sqlite.specs.Effect.{Database}
-use Rattle.sqlite.proofs.Callers.{IsPlain, command_of, reads_as, one_permutation}
+use Rattle.sqlite.proofs.Callers.{one_permutation}
 use Rattle.sqlite_sql.specs.Aggregate.{count}
 use Rattle.sqlite_sql.specs.Group.{Aggregate, Grouping, IsSummary, Summarizes, value_over}
 use Rattle.sqlite_sql.specs.declared.aggregate.AggregateOp.TheVariants.{CountRows}
@@ -25,7 +24,7 @@ use Rattle.sqlite_tied.specs.Compute.{everything}
 use Rattle.result_keeper.specs.Kept.{bytes_cmp, most_projects}
 use Rattle.result_keeper.proofs.Orders.{bytes_total}
 use Rattle.result_keeper.proofs.Maps.{len-from_entries}
-use Rattle.sqlite_keeper.specs.Schema.{store_schema}
+use Rattle.sqlite_keeper.proofs.Statements.{IsQuery, answer_of}
 use Rattle.sqlite_keeper.specs.Tables.{project_rows, result_rows, project_entry, projects_in, IsStore}
 
 abbrev pub count_projects_text : List ℕ
@@ -50,13 +49,9 @@ count_query tree = record {
   offset = lit (Int (pos 0));
 }
 
-pub count_projects_is : (command_of (understood store_schema count_projects_text) ≡ Select (record { lets = []; body = count_query 0 }) (codes "COUNT(*)" ∷ [])) × (reads_listing store_schema count_projects_text ≡ false)
+pub count_projects_is : IsQuery count_projects_text (count_query 0) (codes "COUNT(*)" ∷ [])
 unfolding understood everything
-count_projects_is = (refl, refl)
-
-pub count_projects_plain : IsPlain (understood store_schema count_projects_text)
-unfolding understood everything
-count_projects_plain = (refl, refl)
+count_projects_is = record { command = refl; own = refl; plain = (refl, refl) }
 
 abbrev Counts : List Env → Aggregate → Value → Type 0
 Counts group a v = value_over group a ≡ Some v
@@ -74,7 +69,7 @@ one_summary group [] h = absurd h
 one_summary group (r ∷ []) h = ap (λ x. x ∷ []) (h.0.2 ∙ one_count group h.0.0 h.0.1)
 one_summary group (r ∷ s ∷ rows) h = absurd h.1
 
-all_matches : (rows : List Row) → length (flat_map (λ (r : Row). ([] ∷ r ∷ []) ∷ []) rows) ≡ length rows
+pub all_matches : (rows : List Row) → length (flat_map (λ (r : Row). ([] ∷ r ∷ []) ∷ []) rows) ≡ length rows
 all_matches [] = refl
 all_matches (r ∷ rows) = ap suc (all_matches rows)
 
@@ -96,12 +91,14 @@ counted tree db rows there a =
 past : (n : ℕ) → nat_le most_projects (min n 9223372036854775807) ≡ nat_le most_projects n
 past n = grind (arith, nat_tests)
 
+some : (n : ℕ) → nat_lt 0 (min n 9223372036854775807) ≡ nat_lt 0 n
+some n = grind (arith, nat_tests)
+
 -- the number that is shown is that of the projects, or the greatest that can be shown
 pub number_of_rows : (old new : State) (rows : List Row) (z : ℤ) → IsStore old.now → Shown count_projects_text [] old new rows → column (slice_index_or rows 0 []) 0 ≡ Int z
     → z ≡ pos (min (length (project_rows old.now)) 9223372036854775807)
 number_of_rows old new rows z is h first =
-    let got = reads_as count_projects_text [] old new store_schema is.schema _ count_projects_is.0 count_projects_plain count_projects_is.1 rows h in
-    let found = counted 0 old.now.trees rows refl (got.answer Null) in
+    let found = counted 0 old.now.trees rows refl (answer_of count_projects_text (count_query 0) _ count_projects_is [] old new rows is.schema h) in
     let number : Int z ≡ count (length (project_rows old.now)) = sym first ∙ ap (λ rs. column (slice_index_or rs 0 []) 0) found in
     cc
 
@@ -109,23 +106,23 @@ number_of_rows old new rows z is h first =
 pub full_of_rows : (db : Database) → IsStore db → nat_le most_projects (min (length (project_rows db)) 9223372036854775807) ≡ nat_le most_projects (len (projects_in db))
 full_of_rows db is =
     let all = project_rows db in
-    past (length all) ∙ ap (nat_le most_projects) (sym (len-from_entries bytes_cmp bytes_total (map project_entry all) is.names ∙ length-map all project_entry))
+    past (length all) ∙ ap (nat_le most_projects) (sym (len-from_entries bytes_cmp bytes_total (map project_entry all) is.projects.apart ∙ length-map all project_entry))
 
 abbrev pub count_results_text : List ℕ
 count_results_text = codes "SELECT COUNT(*) FROM result"
 
-count_results_is : (command_of (understood store_schema count_results_text) ≡ Select (record { lets = []; body = count_query 2 }) (codes "COUNT(*)" ∷ [])) × (reads_listing store_schema count_results_text ≡ false)
+pub count_results_is : IsQuery count_results_text (count_query 2) (codes "COUNT(*)" ∷ [])
 unfolding understood everything
-count_results_is = (refl, refl)
+count_results_is = record { command = refl; own = refl; plain = (refl, refl) }
 
-pub count_results_plain : IsPlain (understood store_schema count_results_text)
-unfolding understood everything
-count_results_plain = (refl, refl)
-
--- no results are counted where there are none
-pub none_counted : (old new : State) (rows : List Row) (z : ℤ) → IsStore old.now → result_rows old.now ≡ [] → Shown count_results_text [] old new rows → column (slice_index_or rows 0 []) 0 ≡ Int z → z ≡ pos 0
-none_counted old new rows z is none h first =
-    let got = reads_as count_results_text [] old new store_schema is.schema _ count_results_is.0 count_results_plain count_results_is.1 rows h in
-    let found = counted 2 old.now.trees rows refl (got.answer Null) in
-    let number : Int z ≡ Int (pos 0) = sym first ∙ ap (λ rs. column (slice_index_or rs 0 []) 0) found ∙ ap (λ (l : List Row). count (length l)) none in
+-- the number that is shown is that of the results, or the greatest that can be shown
+pub number_of_results : (old new : State) (rows : List Row) (z : ℤ) → IsStore old.now → Shown count_results_text [] old new rows → column (slice_index_or rows 0 []) 0 ≡ Int z
+    → z ≡ pos (min (length (result_rows old.now)) 9223372036854775807)
+number_of_results old new rows z is h first =
+    let found = counted 2 old.now.trees rows refl (answer_of count_results_text (count_query 2) _ count_results_is [] old new rows is.schema h) in
+    let number : Int z ≡ count (length (result_rows old.now)) = sym first ∙ ap (λ rs. column (slice_index_or rs 0 []) 0) found in
     cc
+
+-- whether there are any
+pub some_results : (db : Database) → nat_lt 0 (min (length (result_rows db)) 9223372036854775807) ≡ nat_lt 0 (length (result_rows db))
+some_results db = some (length (result_rows db))

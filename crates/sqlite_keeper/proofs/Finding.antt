@@ -1,5 +1,5 @@
 -- What the look-up of a file answers.
-use Rattle.std.proofs.Common.{◌≡◌, inl, inr, if◌then◌else◌, ℕ, suc, List, [], ◌∷◌, map, filter, slice_get, Bool, true, false, cond, is_some, Some, None, Option, Ok, Err, Result, refl, sym, ap, subst, subst₂, ◌∙◌, IfOk, Vec, Global, arith, All}
+use Rattle.std.proofs.Common.{◌≡◌, inl, inr, if◌then◌else◌, ℕ, List, [], ◌∷◌, map, filter, slice_get, Bool, true, false, cond, is_some, Some, None, Option, Ok, Err, Result, refl, sym, ap, subst, subst₂, ◌∙◌, IfOk, Vec, Global, arith}
 use Rattle.std.specs.Option.{option_to_list, option_map}
 use Rattle.std.specs.List.{flat_map, list_all, AllByRecursion, IsDistinct}
 use Rattle.std.specs.List.Sorted.{IsPermutation}
@@ -8,22 +8,23 @@ use Rattle.std.specs.Cmp.{eq_by_cmp_equiv, Equal-is}
 use Rattle.std.proofs.lemmas.Simd.{map-map}
 use Rattle.std.specs.FinMap.{get, find, get-from_entries, contains_key}
 use Rattle.std.proofs.lemmas.Bool.{cases_Bool}
+use Rattle.std.proofs.lemmas.List.Elements.{recursion_from_All}
 use Rattle.std.proofs.lemmas.List.Sorted.{IsPermutation-map, length_permutation}
 use Rattle.sqlite_value.proofs.OrderLemmas.{value_cmp-Text}
 use Rattle.sqlite.specs.declared.error.Error.{Error}
-use Rattle.sqlite.specs.declared.types.Value.TheVariants.{Text, Null}
+use Rattle.sqlite.specs.declared.types.Value.TheVariants.{Text}
 use Rattle.sqlite.specs.Order.{Row, column, bytes, value_cmp}
 use Rattle.sqlite.specs.Term.{Env, holds}
 use Rattle.sqlite.specs.Query.{IsAnswer, output, Output}
 use Rattle.sqlite.specs.Program.{overlay}
 use Rattle.sqlite.specs.State.{State, Shown}
-use Rattle.sqlite.proofs.Callers.{reads_as, one_permutation}
+use Rattle.sqlite.proofs.Callers.{one_permutation}
 use Rattle.result_keeper.specs.Kept.{bytes_cmp}
 use Rattle.result_keeper.specs.Entries.{AreApart}
 use Rattle.result_keeper.proofs.Orders.{bytes_total, bytes_exact}
 use Rattle.sqlite_keeper.specs.Schema.{store_schema}
 use Rattle.sqlite_keeper.specs.Tables.{project_rows, project_entry, projects_in, IsProjectRow, IsStore}
-use Rattle.sqlite_keeper.proofs.Statements.{file_text, file_query, by_parameter, file_is, file_plain}
+use Rattle.sqlite_keeper.proofs.Statements.{answer_of, file_text, file_query, by_parameter, file_is}
 use Rattle.sqlite_keeper.proofs.Queries.{text_test}
 
 abbrev pub is_named : List ℕ → Row → Bool
@@ -45,14 +46,9 @@ shows_is name (r ∷ rows) =
 
 finds : (old new : State) (name : List ℕ) (rows : List Row) → old.now.schema ≡ store_schema → Shown file_text (Text name ∷ []) old new rows → IsPermutation (files_named name (project_rows old.now)) rows
 finds old new name rows has h =
-    let got = reads_as file_text (Text name ∷ []) old new store_schema has _ file_is.0 file_plain file_is.1 rows h in
-    let a : IsAnswer file_query (overlay old.now.trees []) (Text name ∷ []) rows = got.answer Null in
+    let a : IsAnswer file_query (overlay old.now.trees []) (Text name ∷ []) rows = answer_of file_text file_query _ file_is (Text name ∷ []) old new rows has h in
     let kept = a.distinct ∙ ap (map (output file_query)) a.grouped in
     subst₂ IsPermutation (ap (map (λ (o : Output). o.1)) kept ∙ shows_is name (project_rows old.now)) (sym a.shown) (IsPermutation-map (λ (o : Output). o.1) a.kept a.ordered a.same)
-
-pub by_rows : (P : Row → Type 0) (rows : List Row) → All P rows → AllByRecursion P rows
-by_rows P [] h = tt
-by_rows P (r ∷ rows) h = (h 0 r (omega arith), by_rows P rows (λ k d l. h (suc k) d (omega arith)))
 
 -- the test of the row is that of the entry
 pub named_entry : (name : List ℕ) (r : Row) → IsProjectRow r → is_named name r ≡ eq_by_cmp bytes_cmp name (project_entry r).0
@@ -98,7 +94,7 @@ file_of old new name rows is h =
     let all = project_rows old.now in
     let first = λ (r : Row). bytes (column r 0) in
     let permuted = IsPermutation-map first (files_named name all) rows (finds old new name rows is.schema h) in
-    let one : map first (files_named name all) ≡ option_to_list (find bytes_cmp name (map project_entry all)) = map-map first (λ r. column r 2 ∷ []) (filter (is_named name) all) ∙ named_one name all (by_rows IsProjectRow all is.projects) is.names in
+    let one : map first (files_named name all) ≡ option_to_list (find bytes_cmp name (map project_entry all)) = map-map first (λ r. column r 2 ∷ []) (filter (is_named name) all) ∙ named_one name all (recursion_from_All IsProjectRow all is.projects.typed) is.projects.apart in
     slice_get-map first rows
     ∙ first_of_option (find bytes_cmp name (map project_entry all)) (map first rows) (subst (λ l. IsPermutation l (map first rows)) one permuted)
     ∙ sym (get-from_entries bytes_total (map project_entry all) name)

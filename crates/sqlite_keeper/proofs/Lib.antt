@@ -8,6 +8,8 @@ mod Within
 mod Counting
 mod ResultRows
 mod Making
+mod Versions
+mod Moving
 mod Telling
 mod Finding
 mod Sorting

@@ -8,7 +8,7 @@ use Rattle.std.proofs.lemmas.Simd.{map-map}
 use Rattle.std.proofs.lemmas.List.Sorted.{IsPermutation-map, IsPermutation-refl, IsPermutation-cons, IsPermutation-trans, IsPermutation-middle, list_any-IsPermutation}
 use Rattle.sqlite_value.proofs.OrderLemmas.{value_cmp_total}
 use Rattle.sqlite.specs.declared.types.Value.TheVariants.{Int}
-use Rattle.sqlite.specs.Order.{Row, column, value_cmp}
+use Rattle.sqlite.specs.Order.{Row, value_cmp}
 use Rattle.sqlite.specs.Tree.{IsTable, rowid, has_rowid, put_row, without_rowid}
 use Rattle.sqlite.specs.Edit.{id_in, without_all, is_taken}
 use Rattle.sqlite_rules.specs.Calls.{ids_of}
@@ -86,11 +86,16 @@ gone p (r ∷ rows) n t =
     ]
 
 -- the rows whose numbers were found are taken out, and no other
-pub taken_out : (p : Row → Bool) (rows found : List Row) → AllByRecursion IsNumbered rows → IsTable rows → IsPermutation (map (λ r. column r 0 ∷ []) (filter p rows)) found
+pub taken_out : (p : Row → Bool) (shown : Row → Row) → ((r : Row) → number_of (shown r) ≡ number_of r) → (rows found : List Row) → AllByRecursion IsNumbered rows → IsTable rows → IsPermutation (map shown (filter p rows)) found
     → without_all rows (ids_of found) ≡ filter (λ r. not (p r)) rows
-taken_out p rows found n t h =
-    let ids : IsPermutation (map number_of (filter p rows)) (ids_of found) = subst (λ l. IsPermutation l (ids_of found)) (map-map number_of (λ r. column r 0 ∷ []) (filter p rows)) (IsPermutation-map number_of _ found h) in
+taken_out p shown same rows found n t h =
+    let numbers : map number_of (map shown (filter p rows)) ≡ map number_of (filter p rows) = map-map number_of shown (filter p rows) ∙ alike (filter p rows) in
+    let ids : IsPermutation (map number_of (filter p rows)) (ids_of found) = subst (λ l. IsPermutation l (ids_of found)) numbers (IsPermutation-map number_of _ found h) in
     sym (in_any_order (map number_of (filter p rows)) (ids_of found) rows ids) ∙ gone p rows n t
+  where
+    alike : (rs : List Row) → map (λ r. number_of (shown r)) rs ≡ map number_of rs
+    alike [] = refl
+    alike (r ∷ rs) = λ i. same r i ∷ alike rs i
 
 pub all_filter : (P : Row → Type 0) (p : Row → Bool) (rows : List Row) → AllByRecursion P rows → AllByRecursion P (filter p rows)
 all_filter P p [] a = tt

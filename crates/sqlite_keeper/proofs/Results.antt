@@ -1,5 +1,5 @@
 -- What the rows of a context answer.
-use Rattle.std.proofs.Common.{◌≡◌, ℕ, zero, suc, ◌<◌, List, [], ◌∷◌, length, get_or, map, filter, Bool, true, false, cond, Ok, Err, Result, inl, inr, if◌then◌else◌, refl, sym, ap, subst, ◌∙◌, arith, IfOk, Vec, Global, All, Ordering, Equal}
+use Rattle.std.proofs.Common.{◌≡◌, ℕ, List, [], ◌∷◌, map, filter, Bool, true, false, cond, Ok, Err, Result, inl, inr, if◌then◌else◌, refl, sym, ap, subst, ◌∙◌, IfOk, Vec, Global, All, Ordering, Equal}
 use Rattle.std.specs.List.{flat_map, list_all, AllByRecursion, IsDistinct}
 use Rattle.std.specs.List.Sorted.{IsPermutation, IsSorted}
 use Rattle.std.specs.Ordering.{on, is_eq, eq_by_cmp, ordering_then}
@@ -12,31 +12,29 @@ use Rattle.std.proofs.lemmas.Simd.{map-map}
 use Rattle.std.proofs.lemmas.Map.Text.{is_eq-slice_cmp}
 use Rattle.std.proofs.lemmas.Map.Keys.{IsDistinct-IsPermutation}
 use Rattle.std.proofs.lemmas.Slice.Eq.{bytes_eq-Decides}
+use Rattle.std.proofs.lemmas.List.Elements.{All-from_recursion, recursion_from_All}
 use Rattle.std.proofs.lemmas.List.Sorted.{IsPermutation-map, All-permutation}
 use Rattle.sqlite_value.proofs.OrderLemmas.{value_cmp-Blob}
 use Rattle.sqlite.specs.declared.error.Error.{Error}
-use Rattle.sqlite.specs.declared.types.Value.TheVariants.{Null, Blob}
+use Rattle.sqlite.specs.declared.types.Value.TheVariants.{Blob}
 use Rattle.sqlite.specs.Order.{Row, column, bytes, value_cmp}
 use Rattle.sqlite.specs.Query.{IsAnswer, output, Output}
 use Rattle.sqlite.specs.Term.{Env, holds}
 use Rattle.sqlite.specs.Program.{overlay}
 use Rattle.sqlite.specs.State.{State, Shown}
-use Rattle.sqlite.proofs.Callers.{reads_as}
 use Rattle.result_keeper.specs.Kept.{bytes_cmp, row_cmp, within}
 use Rattle.result_keeper.specs.Entries.{AreApart}
 use Rattle.result_keeper.proofs.Orders.{bytes_total}
 use Rattle.result_keeper.proofs.Ordered.{sorted_map, sorted_are_results}
-use Rattle.sqlite_keeper.specs.Schema.{store_schema}
 use Rattle.sqlite_keeper.specs.Tables.{result_rows, result_entry, results_in, shown_pair, IsResultRow, IsStore}
-use Rattle.sqlite_keeper.proofs.Statements.{results_text, results_query, by_parameter, results_is, results_plain}
+use Rattle.sqlite_keeper.proofs.Statements.{answer_of, results_text, results_query, by_parameter, results_is}
 use Rattle.sqlite_keeper.proofs.Queries.{blob_test}
-use Rattle.sqlite_keeper.proofs.Finding.{by_rows}
 use Rattle.sqlite_keeper.proofs.Sorting.{sorted_alike, first_cmp, first_bytes, IsBlobFirst, blob_first, rising}
 
 abbrev Entry : Type 0
 Entry = (List ℕ × List ℕ) × List ℕ
 
-abbrev is_within : List ℕ → Row → Bool
+abbrev pub is_within : List ℕ → Row → Bool
 is_within c r = is_eq (value_cmp (column r 1) (Blob c))
 
 abbrev step : List ℕ → Row → List Env
@@ -57,7 +55,7 @@ abbrev out_pair : Output → List ℕ × List ℕ
 out_pair o = shown_pair o.1
 
 -- the test of the row is that of the entry
-within_entry : (c : List ℕ) (r : Row) → IsResultRow r → is_within c r ≡ bytes_eq (result_entry r).0.0 c
+pub within_entry : (c : List ℕ) (r : Row) → IsResultRow r → is_within c r ≡ bytes_eq (result_entry r).0.0 c
 within_entry c r is = ap (λ v. is_eq (value_cmp v (Blob c))) is.context ∙ ap is_eq (value_cmp-Blob (bytes (column r 1)) c) ∙ is_eq-slice_cmp (bytes (column r 1)) c
 
 pairs_is : (c : List ℕ) (rows : List Row) → AllByRecursion IsResultRow rows → map out_pair (map shown_row (filter (is_within c) rows)) ≡ within c (map result_entry rows)
@@ -82,11 +80,6 @@ tree_output c (r ∷ rows) all =
       | true ↦ (record { blob = all.0.tree; same = refl }, tree_output c rows all.1)
       | false ↦ tree_output c rows all.1
     ]
-
-all_at : (P : Output → Type 0) (os : List Output) → AllByRecursion P os → (k : ℕ) (d : Output) → k < length os → P (get_or os k d)
-all_at P [] a k d l = absurd (omega arith)
-all_at P (o ∷ os) a zero d l = a.0
-all_at P (o ∷ os) a (suc k) d l = all_at P os a.1 k d (omega arith)
 
 tree_first : (x y : Output) → IsTreeOutput x → IsTreeOutput y → first_cmp x y ≡ bytes_cmp (out_pair x).0 (out_pair y).0
 tree_first x y p q = blob_first x y p.blob q.blob ∙ (λ i. bytes_cmp (sym p.same i) (sym q.same i))
@@ -120,19 +113,18 @@ pub results_of_rows : (old new : State) (c : List ℕ) (rows : List Row) → IsS
 results_of_rows old new c rows is h =
     let all = result_rows old.now in
     let es = map result_entry all in
-    let typed = by_rows IsResultRow all is.results in
-    let got = reads_as results_text (Blob c ∷ []) old new store_schema is.schema _ results_is.0 results_plain results_is.1 rows h in
-    let a : IsAnswer results_query (overlay old.now.trees []) (Blob c ∷ []) rows = got.answer Null in
+    let typed = recursion_from_All IsResultRow all is.results.typed in
+    let a : IsAnswer results_query (overlay old.now.trees []) (Blob c ∷ []) rows = answer_of results_text results_query _ results_is (Blob c ∷ []) old new rows is.schema h in
     let found = map shown_row (filter (is_within c) all) in
     let kept : a.kept ≡ found = a.distinct ∙ ap (map (output results_query)) a.grouped ∙ shows_is c all in
     let moved : IsPermutation found a.ordered = subst (λ k. IsPermutation k a.ordered) kept a.same in
-    let outputs : All IsTreeOutput a.ordered = All-permutation IsTreeOutput found a.ordered moved (all_at IsTreeOutput found (tree_output c all typed)) in
+    let outputs : All IsTreeOutput a.ordered = All-permutation IsTreeOutput found a.ordered moved (All-from_recursion IsTreeOutput found (tree_output c all typed)) in
     let ps = map out_pair a.ordered in
     let pairs : IsPermutation (within c es) ps = subst (λ l. IsPermutation l ps) (pairs_is c all typed) (IsPermutation-map out_pair found a.ordered moved) in
     let by_tree : IsSorted (on (λ p. p.0) bytes_cmp) ps = sorted_map out_pair (on (λ (p : List ℕ × List ℕ). p.0) bytes_cmp) (on_total (λ (p : List ℕ × List ℕ). p.0) bytes_total) a.ordered
     (sorted_alike first_cmp (on out_pair (on (λ (p : List ℕ × List ℕ). p.0) bytes_cmp)) IsTreeOutput tree_first a.ordered outputs a.sorted) in
-    let trees = IsDistinct-IsPermutation (eq_by_cmp bytes_cmp) (eq_by_cmp_equiv bytes_total).symm (map (λ p. p.0) (within c es)) (map (λ p. p.0) ps) (IsPermutation-map (λ p. p.0) (within c es) ps pairs) (trees_apart c es is.keys) in
-    ap (map shown_pair) a.shown ∙ map-map shown_pair (λ (o : Output). o.1) a.ordered ∙ sorted_are_results c es ps is.keys pairs (rising ps by_tree trees)
+    let trees = IsDistinct-IsPermutation (eq_by_cmp bytes_cmp) (eq_by_cmp_equiv bytes_total).symm (map (λ p. p.0) (within c es)) (map (λ p. p.0) ps) (IsPermutation-map (λ p. p.0) (within c es) ps pairs) (trees_apart c es is.results.apart) in
+    ap (map shown_pair) a.shown ∙ map-map shown_pair (λ (o : Output). o.1) a.ordered ∙ sorted_are_results c es ps is.results.apart pairs (rising ps by_tree trees)
 
 pub results_of_rows_if : (old new : State) (c : List ℕ) (result : Result (Vec Row Global) Error) → IsStore old.now → IfOk result (λ rows. Shown results_text (Blob c ∷ []) old new rows.items)
     → IfOk result (λ rows. map shown_pair rows.items ≡ within c (entries (results_in old.now)))

@@ -1,9 +1,13 @@
--- What the statements that read compile to.
+-- What the statements compile to.
 use Rattle.std.proofs.Common.{◌≡◌, ℕ, pos, negsuc, List, [], ◌∷◌, codes, Bool, true, false, None, refl}
 use Rattle.sqlite.specs.Command.TheVariants.{Select, Insert, Update, Delete}
 use Rattle.sqlite.specs.Source.TheVariants.{Values}
 use Rattle.sqlite.specs.Table.{Table}
-use Rattle.sqlite.specs.Query.{Query, inner, end}
+use Rattle.sqlite.specs.Command.{Command}
+use Rattle.sqlite.specs.Order.{Row}
+use Rattle.sqlite.specs.Program.{overlay}
+use Rattle.sqlite.specs.State.{State, Shown}
+use Rattle.sqlite.specs.Query.{Query, IsAnswer, inner, end}
 use Rattle.sqlite.specs.Term.{Term, lit, col, op2}
 use Rattle.sqlite.specs.declared.types.Value.TheVariants.{Int, Null}
 use Rattle.sqlite.specs.Collation.{Collation}
@@ -14,8 +18,24 @@ use Rattle.sqlite_sql.specs.declared.ops.BinaryOp.TheVariants.{Compare}
 use Rattle.sqlite_sql.specs.declared.ops.CompareOp.TheVariants.{Eq}
 use Rattle.sqlite_tied.specs.Compute.{everything}
 use Rattle.sqlite.specs.Listing.{understood, reads_listing}
-use Rattle.sqlite.proofs.Callers.{IsPlain, command_of}
+use Rattle.sqlite.proofs.Callers.{IsPlain, command_of, reads_as}
 use Rattle.sqlite_keeper.specs.Schema.{store_schema, result_table, store_table}
+
+-- the text is that query over the tables of the store, whose columns have these names
+pub record IsQuery (text : List ℕ) (body : Query) (names : List (List ℕ)) : Type 0 where
+  pub command : command_of (understood store_schema text) ≡ Select (record { lets = []; body = body }) names
+  pub own : reads_listing store_schema text ≡ false
+  pub plain : IsPlain (understood store_schema text)
+
+-- the text is that change of them
+pub record IsChange (text : List ℕ) (change : Command) : Type 0 where
+  pub command : command_of (understood store_schema text) ≡ change
+  pub plain : IsPlain (understood store_schema text)
+
+-- what the rows that such a query shows are
+pub answer_of : (text : List ℕ) (body : Query) (names : List (List ℕ)) → IsQuery text body names → (params : Row) (old new : State) (rows : List Row) → old.now.schema ≡ store_schema → Shown text params old new rows
+    → IsAnswer body (overlay old.now.trees []) params rows
+answer_of text body names is params old new rows has h = (reads_as text params old new store_schema has _ is.command is.plain is.own rows h).answer Null
 
 abbrev pub file_text : List ℕ
 file_text = codes "SELECT file FROM project WHERE name = ?1"
@@ -58,37 +78,21 @@ contexts_query = query 2 [] (col 1 1 ∷ []) true (Binary ∷ []) ((col 1 1, asc
 abbrev pub results_query : Query
 results_query = query 2 by_parameter (col 1 2 ∷ col 1 3 ∷ []) false [] ((col 1 2, ascending Binary) ∷ [])
 
-pub file_is : (command_of (understood store_schema file_text) ≡ Select (record { lets = []; body = file_query }) (codes "file" ∷ [])) × (reads_listing store_schema file_text ≡ false)
+pub file_is : IsQuery file_text file_query (codes "file" ∷ [])
 unfolding understood everything
-file_is = (refl, refl)
+file_is = record { command = refl; own = refl; plain = (refl, refl) }
 
-pub file_plain : IsPlain (understood store_schema file_text)
+pub names_is : IsQuery names_text names_query (codes "name" ∷ [])
 unfolding understood everything
-file_plain = (refl, refl)
+names_is = record { command = refl; own = refl; plain = (refl, refl) }
 
-pub names_is : (command_of (understood store_schema names_text) ≡ Select (record { lets = []; body = names_query }) (codes "name" ∷ [])) × (reads_listing store_schema names_text ≡ false)
+pub contexts_is : IsQuery contexts_text contexts_query (codes "context" ∷ [])
 unfolding understood everything
-names_is = (refl, refl)
+contexts_is = record { command = refl; own = refl; plain = (refl, refl) }
 
-pub names_plain : IsPlain (understood store_schema names_text)
+pub results_is : IsQuery results_text results_query (codes "tree" ∷ codes "value" ∷ [])
 unfolding understood everything
-names_plain = (refl, refl)
-
-pub contexts_is : (command_of (understood store_schema contexts_text) ≡ Select (record { lets = []; body = contexts_query }) (codes "context" ∷ [])) × (reads_listing store_schema contexts_text ≡ false)
-unfolding understood everything
-contexts_is = (refl, refl)
-
-pub contexts_plain : IsPlain (understood store_schema contexts_text)
-unfolding understood everything
-contexts_plain = (refl, refl)
-
-pub results_is : (command_of (understood store_schema results_text) ≡ Select (record { lets = []; body = results_query }) (codes "tree" ∷ codes "value" ∷ [])) × (reads_listing store_schema results_text ≡ false)
-unfolding understood everything
-results_is = (refl, refl)
-
-pub results_plain : IsPlain (understood store_schema results_text)
-unfolding understood everything
-results_plain = (refl, refl)
+results_is = record { command = refl; own = refl; plain = (refl, refl) }
 
 -- the tables as they stand in the schema, with the numbers of their trees
 abbrev pub numbered_result : Table
@@ -137,57 +141,36 @@ result_terms = lit Null ∷ col 0 0 ∷ col 0 1 ∷ col 0 2 ∷ []
 abbrev pub version_terms : List Term
 version_terms = lit (Int (pos 1)) ∷ lit Null ∷ lit (Int (pos 2)) ∷ []
 
-pub delete_project_is : command_of (understood store_schema delete_project_text) ≡ Delete 0 (record { lets = []; body = delete_project_query })
+pub delete_project_is : IsChange delete_project_text (Delete 0 (record { lets = []; body = delete_project_query }))
 unfolding understood everything
-delete_project_is = refl
+delete_project_is = record { command = refl; plain = (refl, refl) }
 
-pub delete_project_plain : IsPlain (understood store_schema delete_project_text)
+pub insert_project_is : IsChange insert_project_text (Insert 0 (Values project_terms 3))
 unfolding understood everything
-delete_project_plain = (refl, refl)
+insert_project_is = record { command = refl; plain = (refl, refl) }
 
-pub insert_project_is : command_of (understood store_schema insert_project_text) ≡ Insert 0 (Values project_terms 3)
+pub delete_result_is : IsChange delete_result_text (Delete 1 (record { lets = []; body = delete_result_query }))
 unfolding understood everything
-insert_project_is = refl
+delete_result_is = record { command = refl; plain = (refl, refl) }
 
-pub insert_project_plain : IsPlain (understood store_schema insert_project_text)
+pub insert_result_is : IsChange insert_result_text (Insert 1 (Values result_terms 4))
 unfolding understood everything
-insert_project_plain = (refl, refl)
+insert_result_is = record { command = refl; plain = (refl, refl) }
 
-pub delete_result_is : command_of (understood store_schema delete_result_text) ≡ Delete 1 (record { lets = []; body = delete_result_query })
+pub insert_version_is : IsChange insert_version_text (Insert 2 (Values version_terms 3))
 unfolding understood everything
-delete_result_is = refl
+insert_version_is = record { command = refl; plain = (refl, refl) }
 
-pub delete_result_plain : IsPlain (understood store_schema delete_result_text)
+pub move_results_is : IsChange move_results_text (Update 1 (record { lets = []; body = move_results_query }))
 unfolding understood everything
-delete_result_plain = (refl, refl)
-
-pub insert_result_is : command_of (understood store_schema insert_result_text) ≡ Insert 1 (Values result_terms 4)
-unfolding understood everything
-insert_result_is = refl
-
-pub insert_result_plain : IsPlain (understood store_schema insert_result_text)
-unfolding understood everything
-insert_result_plain = (refl, refl)
-
-pub insert_version_is : command_of (understood store_schema insert_version_text) ≡ Insert 2 (Values version_terms 3)
-unfolding understood everything
-insert_version_is = refl
-
-pub insert_version_plain : IsPlain (understood store_schema insert_version_text)
-unfolding understood everything
-insert_version_plain = (refl, refl)
-
-pub move_results_is : command_of (understood store_schema move_results_text) ≡ Update 1 (record { lets = []; body = move_results_query })
-unfolding understood everything
-move_results_is = refl
-
-pub move_results_plain : IsPlain (understood store_schema move_results_text)
-unfolding understood everything
-move_results_plain = (refl, refl)
+move_results_is = record { command = refl; plain = (refl, refl) }
 
 abbrev pub version_text : List ℕ
 version_text = codes "SELECT version FROM store"
 
-pub version_plain : IsPlain (understood store_schema version_text)
+abbrev pub version_query : Query
+version_query = query 4 [] (col 1 2 ∷ []) false [] []
+
+pub version_is : IsQuery version_text version_query (codes "version" ∷ [])
 unfolding understood everything
-version_plain = (refl, refl)
+version_is = record { command = refl; own = refl; plain = (refl, refl) }

@@ -3,6 +3,7 @@ use Rattle.std.proofs.Common.{◌≡◌, ◌&&◌, ◌==◌, not, ℕ, List, [],
 use Rattle.std.specs.List.{AllByRecursion, IsDistinct, list_all}
 use Rattle.std.specs.Ordering.{eq_by_cmp}
 use Rattle.std.proofs.lemmas.Bool.Decides.{nat_tests}
+use Rattle.std.proofs.lemmas.List.Elements.{All-from_recursion, recursion_from_All}
 use base.Stored.{Gv, gnil, gnum, gcons}
 use Rattle.sqlite.specs.declared.types.Value.{Value}
 use Rattle.sqlite.specs.declared.types.Value.TheVariants.{Null, Int, Real, Text, Blob}
@@ -14,14 +15,12 @@ use Rattle.sqlite.specs.Schema.{Schema}
 use Rattle.sqlite.specs.Effect.{Database}
 use Rattle.sqlite_schema.specs.contracts.schema.Schema.{the_row}
 use Rattle.result_keeper.specs.ProjectName.{is_project_name}
-use Rattle.result_keeper.specs.Kept.{bytes_cmp, row_cmp, Kept, Projects, Rows}
+use Rattle.result_keeper.specs.Kept.{bytes_cmp, row_cmp, Kept}
 use Rattle.result_keeper.specs.Told.{Becomes, Stays}
 use Rattle.sqlite_keeper.specs.Schema.{store_schema}
-use Rattle.sqlite_keeper.specs.Tables.{project_rows, result_rows, project_entry, IsProjectRow, IsResultRow, IsStore}
+use Rattle.sqlite_keeper.specs.Tables.{project_rows, result_rows, version_in, project_entry, IsProjectRow, IsResultRow, IsStore}
 use Rattle.sqlite_keeper.specs.Changes.{HasTables}
-use Rattle.sqlite_keeper.specs.Told.{same_code, has_schema, is_text, is_blob, ascends, is_project_row, is_result_row, is_store, kept_in, told_of}
-use Rattle.sqlite_keeper.proofs.Finding.{by_rows}
-use Rattle.sqlite_keeper.proofs.ProjectRows.{at_rows}
+use Rattle.sqlite_keeper.specs.Told.{same_code, has_schema, is_text, is_blob, ascends, is_project_row, is_result_row, are_apart, is_store, kept_in, version_of, told_of}
 
 both_true : (a b : Bool) → (a && b) ≡ true → (a ≡ true) × (b ≡ true)
 both_true true b h = (refl, h)
@@ -38,6 +37,9 @@ code_refl (gcons a b) = true_both (same_code a a) (same_code b b) (code_refl a) 
 
 same_number : (m n : ℕ) → (m == n) ≡ true → m ≡ n
 same_number m n h = grind (arith, nat_tests)
+
+number_same : (m n : ℕ) → m ≡ n → (m == n) ≡ true
+number_same m n h = grind (arith, nat_tests)
 
 code_same : (a b : Gv) → same_code a b ≡ true → a ≡ b
 code_same gnil gnil h = refl
@@ -148,61 +150,78 @@ store_is db h =
     let c = both_true (list_all is_result_row (result_rows db)) _ b.1 in
     let d = both_true (ascends below (project_rows db)) _ c.1 in
     let e = both_true (ascends below (result_rows db)) _ d.1 in
-    let f = both_true (ascends (λ x y. not (eq_by_cmp bytes_cmp x y)) (map (λ e. e.0) (map project_entry (project_rows db)))) _ e.1 in
+    let f = both_true (are_apart bytes_cmp (map project_entry (project_rows db))) _ e.1 in
     record {
       schema = schema_is db.schema a.0;
-      projects = at_rows IsProjectRow (project_rows db) (all_are is_project_row IsProjectRow project_is (project_rows db) b.0);
-      results = at_rows IsResultRow (result_rows db) (all_are is_result_row IsResultRow result_is (result_rows db) c.0);
-      projects_ordered = table_is (project_rows db) d.0;
-      results_ordered = table_is (result_rows db) e.0;
-      names = distinct_is (eq_by_cmp bytes_cmp) _ f.0;
-      keys = distinct_is (eq_by_cmp row_cmp) _ f.1;
+      projects = record {
+        typed = All-from_recursion IsProjectRow (project_rows db) (all_are is_project_row IsProjectRow project_is (project_rows db) b.0);
+        ordered = table_is (project_rows db) d.0;
+        apart = distinct_is (eq_by_cmp bytes_cmp) _ f.0;
+      };
+      results = record {
+        typed = All-from_recursion IsResultRow (result_rows db) (all_are is_result_row IsResultRow result_is (result_rows db) c.0);
+        ordered = table_is (result_rows db) e.0;
+        apart = distinct_is (eq_by_cmp row_cmp) _ f.1;
+      };
     }
 
 pub is_a_store : (db : Database) → IsStore db → is_store db ≡ true
 unfolding is_store
 is_a_store db is =
     true_both (has_schema db.schema) _ (is_schema db.schema is.schema)
-    (true_both (list_all is_project_row (project_rows db)) _ (are_all is_project_row IsProjectRow is_project (project_rows db) (by_rows IsProjectRow (project_rows db) is.projects))
-    (true_both (list_all is_result_row (result_rows db)) _ (are_all is_result_row IsResultRow is_result (result_rows db) (by_rows IsResultRow (result_rows db) is.results))
-    (true_both (ascends below (project_rows db)) _ (is_table (project_rows db) is.projects_ordered)
-    (true_both (ascends below (result_rows db)) _ (is_table (result_rows db) is.results_ordered)
-    (true_both (ascends (λ x y. not (eq_by_cmp bytes_cmp x y)) (map (λ e. e.0) (map project_entry (project_rows db)))) _ (is_distinct (eq_by_cmp bytes_cmp) _ is.names) (is_distinct (eq_by_cmp row_cmp) _ is.keys))))))
+    (true_both (list_all is_project_row (project_rows db)) _ (are_all is_project_row IsProjectRow is_project (project_rows db) (recursion_from_All IsProjectRow (project_rows db) is.projects.typed))
+    (true_both (list_all is_result_row (result_rows db)) _ (are_all is_result_row IsResultRow is_result (result_rows db) (recursion_from_All IsResultRow (result_rows db) is.results.typed))
+    (true_both (ascends below (project_rows db)) _ (is_table (project_rows db) is.projects.ordered)
+    (true_both (ascends below (result_rows db)) _ (is_table (result_rows db) is.results.ordered)
+    (true_both (are_apart bytes_cmp (map project_entry (project_rows db))) _ (is_distinct (eq_by_cmp bytes_cmp) _ is.projects.apart) (is_distinct (eq_by_cmp row_cmp) _ is.results.apart))))))
 
 -- ---- what is told
 
-tells_when : (steady old : Bool) (db : Database) → (steady && (not old && is_store db)) ≡ true → (steady ≡ true) × (old ≡ false) × IsStore db
+tells_when : (steady old : Bool) (db : Database) → (steady && (version_in db == version_of old && is_store db)) ≡ true → (steady ≡ true) × (version_in db ≡ version_of old) × IsStore db
 tells_when steady old db h =
     let a = both_true steady _ h in
-    let b = both_true (not old) _ a.1 in
-    (a.0, not_is old b.0, store_is db b.1)
+    let b = both_true (version_in db == version_of old) _ a.1 in
+    (a.0, same_number (version_in db) (version_of old) b.0, store_is db b.1)
+
+tells : (steady old : Bool) (db : Database) → steady ≡ true → version_in db ≡ version_of old → IsStore db → told_of steady old db ≡ Some (kept_in db)
+tells steady old db s v is =
+    ap (λ b. cond b (Some (kept_in db)) None) (true_both steady _ s (true_both (version_in db == version_of old) _ (number_same (version_in db) (version_of old) v) (is_a_store db is)))
+
+told_if : (steady old : Bool) (db : Database) (P : Kept → Type 0) → (steady ≡ true → version_in db ≡ version_of old → IsStore db → P (kept_in db)) → IfSome (told_of steady old db) P
+told_if steady old db P f =
+    (elim (steady && (version_in db == version_of old && is_store db)) as (λ b. (steady && (version_in db == version_of old && is_store db)) ≡ b → IfSome (cond b (Some (kept_in db)) None) P) [
+      | true ↦ λ h. let t = tells_when steady old db h in f t.0 t.1 t.2
+      | false ↦ λ h. tt
+    ]) refl
 
 pub told_answer : (steady old : Bool) (db : Database) (P : Kept → Type 0) → (steady ≡ true → IsStore db → P (kept_in db)) → IfSome (told_of steady old db) P
-told_answer steady old db P f =
-    (elim (steady && (not old && is_store db)) as (λ b. (steady && (not old && is_store db)) ≡ b → IfSome (cond b (Some (kept_in db)) None) P) [
-      | true ↦ λ h. let t = tells_when steady old db h in f t.0 t.2
-      | false ↦ λ h. tt
-    ]) refl
+told_answer steady old db P f = told_if steady old db P (λ s v is. f s is)
 
--- a store that is told before, and the one that is told after it
-pub told_becomes : (steady old : Bool) (a b : Database) (f : Kept → Kept) → (steady ≡ true → IsStore a → IsStore b × (kept_in b ≡ f (kept_in a))) → Becomes f (told_of steady old a) (told_of steady old b)
-told_becomes steady old a b f g =
-    (elim (steady && (not old && is_store a)) as (λ t. (steady && (not old && is_store a)) ≡ t → Becomes f (cond t (Some (kept_in a)) None) (told_of steady old b)) [
+-- what is told before a call, and what after it
+pub told_turns : (steady old young : Bool) (a b : Database) (f : Kept → Kept) → (steady ≡ true → version_in a ≡ version_of old → IsStore a → IsStore b × (kept_in b ≡ f (kept_in a)) × (version_in b ≡ version_of young))
+    → Becomes f (told_of steady old a) (told_of steady young b)
+told_turns steady old young a b f g =
+    (elim (steady && (version_in a == version_of old && is_store a)) as (λ t. (steady && (version_in a == version_of old && is_store a)) ≡ t → Becomes f (cond t (Some (kept_in a)) None) (told_of steady young b)) [
       | true ↦ λ h.
           let t = tells_when steady old a h in
-          let it = g t.0 t.2 in
-          let again : (steady && (not old && is_store b)) ≡ true = true_both steady _ t.0 (true_both (not old) _ (ap not t.1) (is_a_store b it.0)) in
-          ap (λ x. cond x (Some (kept_in b)) None) again ∙ ap (λ k. Some k) it.1
+          let it = g t.0 t.1 t.2 in
+          tells steady young b t.0 it.2 it.0 ∙ ap (λ k. Some k) it.1
       | false ↦ λ h. tt
     ]) refl
 
+-- the same of a call that leaves the version
+pub told_becomes : (steady old : Bool) (a b : Database) (f : Kept → Kept) → ((k : Kept) → (f k).version ≡ k.version) → (steady ≡ true → IsStore a → IsStore b × (kept_in b ≡ f (kept_in a))) → Becomes f (told_of steady old a) (told_of steady old b)
+told_becomes steady old a b f leaves g = told_turns steady old old a b f (λ s v is. let it = g s is in (it.0, it.1, ap (λ (k : Kept). k.version) it.1 ∙ leaves (kept_in a) ∙ v))
+
 pub told_stays : (steady old : Bool) (a b : Database) → (steady ≡ true → IsStore a → b ≡ a) → Stays (told_of steady old a) (told_of steady old b)
-told_stays steady old a b f = told_becomes steady old a b (λ k. k) (λ s is. let same = f s is in (subst IsStore (sym same) is, ap kept_in same))
+told_stays steady old a b f = told_becomes steady old a b (λ k. k) (λ k. refl) (λ s is. let same = f s is in (subst IsStore (sym same) is, ap kept_in same))
 
-pub kept_is : (projects : Projects) (rows : Rows) (db : Database) → HasTables projects rows db → kept_in db ≡ record { version = 2; projects = projects; rows = rows }
-kept_is projects rows db t = λ i. record { version = 2; projects = t.projects i; rows = t.rows i }
+-- what is asked of a keeper that tells holds of what its database holds
+pub told_holds : (steady old : Bool) (db : Database) (P : Kept → Type 0) → IfSome (told_of steady old db) P → steady ≡ true → version_in db ≡ version_of old → IsStore db → P (kept_in db)
+told_holds steady old db P h s v is = subst (λ o. IfSome o P) (tells steady old db s v is) h
 
-pub told_is : (steady old : Bool) (db : Database) (projects : Projects) (rows : Rows) → steady ≡ true → old ≡ false → HasTables projects rows db → told_of steady old db ≡ Some (record { version = 2; projects = projects; rows = rows })
-told_is steady old db projects rows s o t =
-    let tells : (steady && (not old && is_store db)) ≡ true = true_both steady _ s (true_both (not old) _ (ap not o) (is_a_store db t.is)) in
-    ap (λ b. cond b (Some (kept_in db)) None) tells ∙ ap (λ k. Some k) (kept_is projects rows db t)
+pub kept_is : (k : Kept) (db : Database) → HasTables k db → kept_in db ≡ k
+kept_is k db t = λ i. record { version = t.version i; projects = t.projects i; rows = t.rows i }
+
+pub told_is : (steady old : Bool) (k : Kept) (db : Database) → steady ≡ true → k.version ≡ version_of old → HasTables k db → told_of steady old db ≡ Some k
+told_is steady old k db s o t = tells steady old db s (t.version ∙ o) t.is ∙ ap (λ x. Some x) (kept_is k db t)

@@ -1,9 +1,9 @@
--- What DELETE and INSERT make of the rows of a table.
-use Rattle.std.proofs.Common.{◌≡◌, ◌≢◌, ℕ, List, [], map, length, true, false, cond, Some, None, Option, Ok, refl, sym, ap, subst, ◌∙◌, Bool}
+-- What DELETE, INSERT and UPDATE make of the rows of a table.
+use Rattle.std.proofs.Common.{◌≡◌, ◌≢◌, ℕ, ℤ, List, [], map, drop, length, true, false, cond, Some, None, Option, Ok, refl, sym, ap, subst, ◌∙◌, Bool}
 use Rattle.std.specs.List.{AllByRecursion}
 use Rattle.std.proofs.lemmas.List.{length-map}
 use Rattle.sqlite.specs.declared.types.Value.{Value}
-use Rattle.sqlite.specs.declared.types.Value.TheVariants.{Null}
+use Rattle.sqlite.specs.declared.types.Value.TheVariants.{Null, Int}
 use Rattle.sqlite.specs.Order.{Row}
 use Rattle.sqlite.specs.Kind.TheVariants.{Integer}
 use Rattle.sqlite.specs.Ops.{unary}
@@ -21,7 +21,7 @@ use Rattle.sqlite_schema.specs.declared.schema.Column.{Column}
 use Rattle.sqlite_schema.specs.declared.schema.Table.{Table}
 use Rattle.sqlite_schema.specs.declared.program.Program.{Program}
 use Rattle.sqlite_schema.specs.declared.command.Source.{Source}
-use Rattle.sqlite_schema.specs.declared.command.Command.TheVariants.{Insert, Delete}
+use Rattle.sqlite_schema.specs.declared.command.Command.TheVariants.{Insert, Delete, Update}
 use Rattle.sqlite_value.specs.declared.keys.Order.{Order}
 use Rattle.sqlite_sql.specs.Term.{Term}
 use Rattle.sqlite.specs.declared.run.Mode.{Mode}
@@ -35,6 +35,10 @@ either false x = refl
 pub cast_null : cast Integer Null ≡ Null
 unfolding unary
 cast_null = either _ Null
+
+pub cast_int : (n : ℤ) → cast Integer (Int n) ≡ Int n
+unfolding unary
+cast_int n = either _ (Int n)
 
 -- the other tables have the rows that they had
 abbrev pub KeepsOthers : ℕ → Trees → Trees → Type 0
@@ -114,6 +118,33 @@ module _ (limit : Option ℕ) (keys : Keys) (mode : Mode) (params : Row) (name :
       record {
         given = given.0;
         source = given.1;
+        schema = ap (λ (d : Database). d.schema) now;
+        rows = ap (λ (d : Database). d.trees tree) now ∙ applies.rows;
+        fresh = applies.fresh;
+        others = subst (KeepsOthers tree db) (sym (ap (λ (d : Database). d.trees) now)) applies.tables;
+      }
+
+  pub record Changes (q : Program) (db : Trees) (tally : Tally) (after : Database) : Type 0 where
+    pub found : List Row
+    pub answers : Answers (record { schema = store_schema; trees = db }) q params found
+    pub schema : after.schema ≡ store_schema
+    pub rows : after.trees tree ≡ put_all (without_all (db tree) (ids_of found)) (numbered Given (without_all (db tree) (ids_of found)) (map (λ s. cast_row written_table (drop 1 s)) found))
+    pub fresh : are_fresh (without_all (db tree) (ids_of found)) (numbered Given (without_all (db tree) (ids_of found)) (map (λ s. cast_row written_table (drop 1 s)) found)) ≡ true
+    pub others : KeepsOthers tree db after.trees
+
+  pub changes : (at : ℕ) (q : Program) (db : Trees) (tally : Tally) (after : Database) → OnRows written_task mode None (Update at q) db (Ok (tally, after)) → Changes q db tally after
+  changes at q db tally after h =
+      let done = went h in
+      let given = went done.1 in
+      let made = went given.2 in
+      let end = same_value (went (went done.2).2).2 in
+      let edit : Edit = edit_of db written_table (ids_of given.0) Given 1 given.0 in
+      let applies = one_step store_schema keys db made.0 edit refl made.1 in
+      let written = same_value made.2 in
+      let now : after ≡ record { schema = store_schema; trees = made.0 } = ap (λ (p : Tally × Database). p.1) end ∙ ap (λ (w : Written). record { schema = store_schema; trees = w.trees }) written in
+      record {
+        found = given.0;
+        answers = given.1;
         schema = ap (λ (d : Database). d.schema) now;
         rows = ap (λ (d : Database). d.trees tree) now ∙ applies.rows;
         fresh = applies.fresh;

@@ -1,5 +1,5 @@
 pub mod Schema
 pub mod Tables
-pub mod Changes
 pub mod Told
+pub mod Changes
 pub mod Steady

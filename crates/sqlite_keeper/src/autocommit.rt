@@ -1,8 +1,9 @@
 // Statements outside a transaction. One that fails changes nothing.
-ghost use Rattle.std.specs.Prelude.{◌≡◌, Ok, IfOk, OnErr, IsTrue};
+ghost use Rattle.std.specs.Prelude.{Ok, IfOk};
 ghost use Rattle.sqlite.specs.State.{HasCleanDisk, Executes, Shown};
 ghost use Rattle.sqlite.specs.Held.{state};
 ghost use Rattle.sqlite.specs.Values.{bound};
+ghost use Rattle.sqlite_keeper.specs.Changes.{FailsAlone};
 
 use sqlite::types::ValueRef;
 use sqlite::{Alter, Connection, Error, ErrorCode, Row};
@@ -14,9 +15,9 @@ pub fn query<S: Alter>(
     params: &[ValueRef<'_>],
 ) -> Result<Vec<Row>, Error>
     ensures shown { HasCleanDisk (state S.Store conn.new)
-        → IfOk result (λ rows. Shown text.now (bound params.now) (state S.Store conn.old) (state S.Store conn.new) rows.items) }
-    ensures err { HasCleanDisk (state S.Store conn.new) → IsTrue (state S.Store conn.new).is_open
-        → OnErr result ((state S.Store conn.new).now ≡ (state S.Store conn.old).now) }
+        → IfOk result (λ rows. Shown text.now (bound params.now)
+        (state S.Store conn.old) (state S.Store conn.new) rows.items) }
+    ensures err { FailsAlone (state S.Store conn.old) (state S.Store conn.new) result }
 {
     if !conn.is_autocommit() {
         return Err(Error::SqliteFailure(ErrorCode::TransactionState));
@@ -31,9 +32,9 @@ pub fn execute<S: Alter>(
     params: &[ValueRef<'_>],
 ) -> Result<usize, Error>
     ensures runs { HasCleanDisk (state S.Store conn.new)
-        → IfOk result (λ count. Executes text.now (bound params.now) (state S.Store conn.old) (state S.Store conn.new) (Ok count)) }
-    ensures err { HasCleanDisk (state S.Store conn.new) → IsTrue (state S.Store conn.new).is_open
-        → OnErr result ((state S.Store conn.new).now ≡ (state S.Store conn.old).now) }
+        → IfOk result (λ count. Executes text.now (bound params.now)
+        (state S.Store conn.old) (state S.Store conn.new) (Ok count)) }
+    ensures err { FailsAlone (state S.Store conn.old) (state S.Store conn.new) result }
 {
     if !conn.is_autocommit() {
         return Err(Error::SqliteFailure(ErrorCode::TransactionState));

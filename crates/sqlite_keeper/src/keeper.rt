@@ -1,12 +1,12 @@
 // A keeper over a `sqlite` database.
-ghost use Rattle.std.specs.Prelude.{◌≡◌, true, false, Some, IfOk, OnOk, if◌then◌else◌};
+ghost use Rattle.std.specs.Prelude.{◌≡◌, true, Some, IfOk};
 ghost use Rattle.std.specs.FinMap.{empty};
 ghost use Rattle.sqlite.specs.Held.{state};
-ghost use Rattle.sqlite_keeper.specs.Told.{told_of, kept_in};
+ghost use Rattle.sqlite_keeper.specs.Told.{version_of, told_of, opened, opened_first, first_version};
 ghost use Rattle.result_keeper.specs.Kept.{nothing_kept};
-ghost use Rattle.sqlite_keeper.specs.Schema.{no_schema};
-ghost use Rattle.sqlite_keeper.specs.Tables.{IsStore, projects_in, results_in};
-ghost use Rattle.sqlite_keeper.specs.Changes.{HasTables};
+ghost use Rattle.sqlite_keeper.specs.Schema.{no_schema, first_schema};
+ghost use Rattle.sqlite_keeper.specs.Tables.{IsStore, IsStoreUnder};
+ghost use Rattle.sqlite_keeper.specs.Changes.{HasTables, Opens};
 
 use crate::failure::{counted, uncounted};
 use crate::project_table::{find_file, keep_file, names_in_order, remove_file};
@@ -29,26 +29,40 @@ pub struct SqliteKeeper<S: Alter> {
 // Makes the tables that are not there, and says whether the store is of version 1.
 fn prepare<S: Steady>(conn: &mut Connection<S>) -> Result<bool, Error>
     ensures made { S.is_steady ≡ true → (state S.Store conn.old).now.schema ≡ no_schema
-        → IfOk result (λ is_old. (is_old ≡ false) × HasTables empty empty (state S.Store conn.new).now) }
+        → IfOk result (λ is_old. (version_of is_old ≡ 2)
+        × HasTables nothing_kept (state S.Store conn.new).now) }
+    ensures grown { S.is_steady ≡ true → IsStoreUnder first_schema (state S.Store conn.old).now
+        → IfOk result (λ is_old.
+        HasTables (opened_first (state S.Store conn.old).now) (state S.Store conn.new).now
+        × (first_version (state S.Store conn.old).now ≡ version_of is_old)) }
     ensures there { S.is_steady ≡ true → IsStore (state S.Store conn.old).now
-        → OnOk result (HasTables (projects_in (state S.Store conn.old).now) (results_in (state S.Store conn.old).now) (state S.Store conn.new).now) }
+        → IfOk result (λ is_old.
+        Opens is_old (state S.Store conn.old).now (state S.Store conn.new).now) }
 {
     make_tables(conn)?;
     is_old(conn)
 }
 
 impl<S: Steady + Drop> SqliteKeeper<S> {
-    /// Makes the tables where they are not there. The version is 1 exactly where there are results and none is kept. Fails only
-    /// where the database refuses a statement: as `Memory` for want of memory, else as `Failed`.
+    /// Makes the tables where they are not there. The version is 1 exactly where there are
+    /// results and none is kept. Fails only where the database refuses a statement: as `Memory`
+    /// for want of memory, else as `Failed`.
     ///
-    /// Over a store that is clean and open at all times an empty database is told as tables of version 2 with nothing in them,
-    /// and one with tables as these are, and rows as a keeper makes them, as what its rows say, where its version is 2.
+    /// Over a store that is clean and open at all times an empty database is told as tables of
+    /// version 2 with nothing in them. One that has these tables, or the first two of them, and
+    /// rows as a keeper makes them is told as what its rows say.
     pub fn new(_alloc: Global, connection: Connection<S>) -> Result<SqliteKeeper<S>, KeeperError>
         ensures faults { IfOk result (λ k. k.faults ≡ 0) }
         ensures empty { S.is_steady ≡ true → (state S.Store connection).now.schema ≡ no_schema
-            → IfOk result (λ k. told_of S.is_steady k.is_old (state S.Store k.conn).now ≡ Some nothing_kept) }
+            → IfOk result (λ k. told_of S.is_steady k.is_old (state S.Store k.conn).now
+            ≡ Some nothing_kept) }
+        ensures first { S.is_steady ≡ true
+            → IsStoreUnder first_schema (state S.Store connection).now
+            → IfOk result (λ k. told_of S.is_steady k.is_old (state S.Store k.conn).now
+            ≡ Some (opened_first (state S.Store connection).now)) }
         ensures kept { S.is_steady ≡ true → IsStore (state S.Store connection).now
-            → IfOk result (λ k. k.is_old ≡ false → told_of S.is_steady k.is_old (state S.Store k.conn).now ≡ Some (kept_in (state S.Store connection).now)) }
+            → IfOk result (λ k. told_of S.is_steady k.is_old (state S.Store k.conn).now
+            ≡ Some (opened (state S.Store connection).now)) }
     {
         let mut conn = connection;
         match prepare(&mut conn) {
@@ -73,7 +87,7 @@ impl<S: Steady + Drop> SqliteKeeper<S> {
 }
 
 impl<S: Steady> Keeper for SqliteKeeper<S> {
-    ghost version = { λ k. if k.is_old then 1 else 2 };
+    ghost version = { λ k. version_of k.is_old };
 
     ghost told = { λ k. told_of S.is_steady k.is_old (state S.Store k.conn).now };
 

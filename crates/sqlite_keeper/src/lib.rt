@@ -1,7 +1,8 @@
 //! The store of the workbench in a `sqlite` database: the tables `project`, `result` and `store`.
 //!
-//! Each call of the keeper is a few statements, whose texts are fixed and take parameters. What changes more than one row runs in
-//! one transaction. Where the database refuses a statement for another cause than memory, the keeper's count of faults rises.
+//! Each call of the keeper is a few statements, whose texts are fixed and take parameters. What
+//! changes more than one row runs in one transaction. Where the database refuses a statement for
+//! another cause than memory, the keeper's count of faults rises.
 #![tactic(auto)]
 
 mod autocommit;

@@ -2,16 +2,16 @@
 ghost use Rattle.std.specs.Prelude.{◌≡◌, ℕ, pos, if◌then◌else◌, is_some, false, nat_le, [], ◌∷◌, ◌++◌, slice_get, slice_index_or, IfOk, OnOk, OnErr, IsTrue};
 ghost use Rattle.std.specs.Option.{option_map};
 ghost use Rattle.std.specs.List.{filter_map};
-ghost use Rattle.std.specs.FinMap.{get, contains_key, insert, remove, len};
+ghost use Rattle.std.specs.FinMap.{get, contains_key, len};
 ghost use Rattle.sqlite.specs.State.{HasCleanDisk};
 ghost use Rattle.sqlite.specs.Held.{state};
-ghost use Rattle.sqlite.specs.Order.{column, bytes};
+ghost use Rattle.sqlite.specs.Order.{column};
 ghost use Rattle.sqlite.specs.declared.types.Value.TheVariants.{Int};
 ghost use Rattle.result_keeper.specs.Entries.{file_bytes};
-ghost use Rattle.result_keeper.specs.ProjectName.{is_project_name};
-ghost use Rattle.result_keeper.specs.Kept.{names_in, most_projects, put_answer, put_file};
-ghost use Rattle.sqlite_keeper.specs.Tables.{IsStore, projects_in, results_in, shown_name};
-ghost use Rattle.sqlite_keeper.specs.Changes.{HasTables, IsStill, RunsWithin};
+ghost use Rattle.result_keeper.specs.Kept.{most_projects, put_answer, names_of, without_project, after_put};
+ghost use Rattle.sqlite_keeper.specs.Tables.{IsStore, projects_in, shown_name, shown_text};
+ghost use Rattle.sqlite_keeper.specs.Told.{kept_in};
+ghost use Rattle.sqlite_keeper.specs.Changes.{HasTables, RunsWithin, IsRead, AnswersBy, Turns, TurnsWithin, FailsAlone};
 
 use crate::autocommit::{execute, query};
 use result_keeper::{ProjectName, Put};
@@ -34,16 +34,16 @@ const MOST_PROJECTS: i64 = 10_000;
 
 // The rows with the file of a project: one at most.
 fn rows_named<S: Alter>(conn: &mut Connection<S>, name: &ProjectName) -> Result<Vec<Row>, Error>
-    ensures rows { HasCleanDisk (state S.Store conn.new) → IsStore (state S.Store conn.old).now
-        → IfOk result (λ rows. option_map (λ r. bytes (column r 0)) (slice_get rows.items 0) ≡ get (projects_in (state S.Store conn.old).now) name.now) }
-    ensures stays { HasCleanDisk (state S.Store conn.new) → IsTrue (state S.Store conn.new).is_open
-        → IsStill (state S.Store conn.old).now (state S.Store conn.new).now }
+    ensures rows { AnswersBy
+        (λ k rows. option_map shown_text (slice_get rows.items 0) ≡ get k.projects name.now)
+        (state S.Store conn.old) (state S.Store conn.new) result }
+    ensures stays { IsRead (state S.Store conn.old) (state S.Store conn.new) }
 {
     query(conn, SELECT_FILE, &[ValueRef::Text(name.bytes())])
 }
 
 fn first_blob(rows: &[Row]) -> Result<Option<Vec<u8>>, Error>
-    ensures { IfOk result (λ file. file_bytes file ≡ option_map (λ r. bytes (column r 0)) (slice_get rows.now 0)) }
+    ensures { IfOk result (λ file. file_bytes file ≡ option_map shown_text (slice_get rows.now 0)) }
 {
     match rows.first() {
         Some(row) => Ok(Some(row.get(0)?)),
@@ -56,16 +56,15 @@ pub fn find_file<S: Alter>(
     conn: &mut Connection<S>,
     name: &ProjectName,
 ) -> Result<Option<Vec<u8>>, Error>
-    ensures file { HasCleanDisk (state S.Store conn.new) → IsStore (state S.Store conn.old).now
-        → IfOk result (λ file. file_bytes file ≡ get (projects_in (state S.Store conn.old).now) name.now) }
-    ensures stays { HasCleanDisk (state S.Store conn.new) → IsTrue (state S.Store conn.new).is_open
-        → IsStill (state S.Store conn.old).now (state S.Store conn.new).now }
+    ensures file { AnswersBy (λ k file. file_bytes file ≡ get k.projects name.now)
+        (state S.Store conn.old) (state S.Store conn.new) result }
+    ensures stays { IsRead (state S.Store conn.old) (state S.Store conn.new) }
 {
     let rows = rows_named(conn, name)?;
     first_blob(&rows)
 }
 
-fn has_row(rows: &[Row]) -> bool
+pub fn has_row(rows: &[Row]) -> bool
     ensures { result ≡ is_some (slice_get rows.now 0) }
 {
     rows.first().is_some()
@@ -74,12 +73,15 @@ fn has_row(rows: &[Row]) -> bool
 // Whether a file is kept under a name.
 fn is_kept<S: Alter>(tx: &mut Transaction<'_, S>, name: &ProjectName) -> Result<bool, Error>
     ensures same_reference { tx.new.conn.ghost_name ≡ tx.old.conn.ghost_name }
-    ensures clean { HasCleanDisk (state S.Store tx.new.conn.now) → HasCleanDisk (state S.Store tx.old.conn.now) }
-    ensures kept { HasCleanDisk (state S.Store tx.new.conn.now) → IsStore (state S.Store tx.old.conn.now).now
-        → IfOk result (λ kept. kept ≡ contains_key (projects_in (state S.Store tx.old.conn.now).now) name.now) }
-    ensures stays { HasCleanDisk (state S.Store tx.new.conn.now) → IsStore (state S.Store tx.old.conn.now).now
+    ensures clean { HasCleanDisk (state S.Store tx.new.conn.now)
+        → HasCleanDisk (state S.Store tx.old.conn.now) }
+    ensures kept { AnswersBy (λ k kept. kept ≡ contains_key k.projects name.now)
+        (state S.Store tx.old.conn.now) (state S.Store tx.new.conn.now) result }
+    ensures stays { HasCleanDisk (state S.Store tx.new.conn.now)
+        → IsStore (state S.Store tx.old.conn.now).now
         → OnOk result ((state S.Store tx.new.conn.now).now ≡ (state S.Store tx.old.conn.now).now) }
-    ensures within { IsStore (state S.Store tx.old.conn.now).now → RunsWithin (state S.Store tx.old.conn.now) (state S.Store tx.new.conn.now) result }
+    ensures within { IsStore (state S.Store tx.old.conn.now).now
+        → RunsWithin (state S.Store tx.old.conn.now) (state S.Store tx.new.conn.now) result }
 {
     let rows = tx.query_all(SELECT_FILE, &[ValueRef::Text(name.bytes())])?;
     Ok(has_row(&rows))
@@ -105,12 +107,15 @@ fn are_most(count: i64) -> bool
 // Whether as many projects are kept as a keeper takes.
 fn is_full<S: Alter>(tx: &mut Transaction<'_, S>) -> Result<bool, Error>
     ensures same_reference { tx.new.conn.ghost_name ≡ tx.old.conn.ghost_name }
-    ensures clean { HasCleanDisk (state S.Store tx.new.conn.now) → HasCleanDisk (state S.Store tx.old.conn.now) }
-    ensures full { HasCleanDisk (state S.Store tx.new.conn.now) → IsStore (state S.Store tx.old.conn.now).now
-        → IfOk result (λ full. full ≡ nat_le most_projects (len (projects_in (state S.Store tx.old.conn.now).now))) }
-    ensures stays { HasCleanDisk (state S.Store tx.new.conn.now) → IsStore (state S.Store tx.old.conn.now).now
+    ensures clean { HasCleanDisk (state S.Store tx.new.conn.now)
+        → HasCleanDisk (state S.Store tx.old.conn.now) }
+    ensures full { AnswersBy (λ k full. full ≡ nat_le most_projects (len k.projects))
+        (state S.Store tx.old.conn.now) (state S.Store tx.new.conn.now) result }
+    ensures stays { HasCleanDisk (state S.Store tx.new.conn.now)
+        → IsStore (state S.Store tx.old.conn.now).now
         → OnOk result ((state S.Store tx.new.conn.now).now ≡ (state S.Store tx.old.conn.now).now) }
-    ensures within { IsStore (state S.Store tx.old.conn.now).now → RunsWithin (state S.Store tx.old.conn.now) (state S.Store tx.new.conn.now) result }
+    ensures within { IsStore (state S.Store tx.old.conn.now).now
+        → RunsWithin (state S.Store tx.old.conn.now) (state S.Store tx.new.conn.now) result }
 {
     let rows = tx.query_all(COUNT_PROJECTS, &[])?;
     let count = count_in(&rows)?;
@@ -132,11 +137,13 @@ fn put_by(kept: bool, full: bool) -> Put
 // What becomes of a file that is put under a name.
 fn put_of<S: Alter>(tx: &mut Transaction<'_, S>, name: &ProjectName) -> Result<Put, Error>
     ensures same_reference { tx.new.conn.ghost_name ≡ tx.old.conn.ghost_name }
-    ensures answer { HasCleanDisk (state S.Store tx.new.conn.now) → IsStore (state S.Store tx.old.conn.now).now
-        → IfOk result (λ put. put ≡ put_answer (projects_in (state S.Store tx.old.conn.now).now) name.now) }
-    ensures stays { HasCleanDisk (state S.Store tx.new.conn.now) → IsStore (state S.Store tx.old.conn.now).now
+    ensures answer { AnswersBy (λ k put. put ≡ put_answer k.projects name.now)
+        (state S.Store tx.old.conn.now) (state S.Store tx.new.conn.now) result }
+    ensures stays { HasCleanDisk (state S.Store tx.new.conn.now)
+        → IsStore (state S.Store tx.old.conn.now).now
         → OnOk result ((state S.Store tx.new.conn.now).now ≡ (state S.Store tx.old.conn.now).now) }
-    ensures within { IsStore (state S.Store tx.old.conn.now).now → RunsWithin (state S.Store tx.old.conn.now) (state S.Store tx.new.conn.now) result }
+    ensures within { IsStore (state S.Store tx.old.conn.now).now
+        → RunsWithin (state S.Store tx.old.conn.now) (state S.Store tx.new.conn.now) result }
 {
     let kept = is_kept(tx, name)?;
     let full = is_full(tx)?;
@@ -145,18 +152,12 @@ fn put_of<S: Alter>(tx: &mut Transaction<'_, S>, name: &ProjectName) -> Result<P
 
 fn delete_file<S: Alter>(tx: &mut Transaction<'_, S>, name: &ProjectName) -> Result<usize, Error>
     ensures same_reference { tx.new.conn.ghost_name ≡ tx.old.conn.ghost_name }
-    ensures removed { HasCleanDisk (state S.Store tx.new.conn.now) → IsTrue (state S.Store tx.old.conn.now).in_transaction → IsStore (state S.Store tx.old.conn.now).now
-        → OnOk result (HasTables (remove (projects_in (state S.Store tx.old.conn.now).now) name.now) (results_in (state S.Store tx.old.conn.now).now) (state S.Store tx.new.conn.now).now) }
-    ensures within { RunsWithin (state S.Store tx.old.conn.now) (state S.Store tx.new.conn.now) result }
+    ensures removed { TurnsWithin (without_project name.now)
+        (state S.Store tx.old.conn.now) (state S.Store tx.new.conn.now) result }
+    ensures within { RunsWithin
+        (state S.Store tx.old.conn.now) (state S.Store tx.new.conn.now) result }
 {
     tx.execute(DELETE_PROJECT, &[ValueRef::Text(name.bytes())])
-}
-
-// Whether the text is the name of a project, as that of every `ProjectName` is.
-fn is_name(text: &[u8]) -> bool
-    ensures { result ≡ is_project_name text.now }
-{
-    ProjectName::new(text).is_some()
 }
 
 fn insert_file<S: Alter>(
@@ -165,14 +166,12 @@ fn insert_file<S: Alter>(
     file: &[u8],
 ) -> Result<usize, Error>
     ensures same_reference { tx.new.conn.ghost_name ≡ tx.old.conn.ghost_name }
-    ensures added { HasCleanDisk (state S.Store tx.new.conn.now) → IsTrue (state S.Store tx.old.conn.now).in_transaction → IsStore (state S.Store tx.old.conn.now).now
-        → contains_key (projects_in (state S.Store tx.old.conn.now).now) name.now ≡ false
-        → OnOk result (HasTables (insert (projects_in (state S.Store tx.old.conn.now).now) name.now file.now) (results_in (state S.Store tx.old.conn.now).now) (state S.Store tx.new.conn.now).now) }
-    ensures within { RunsWithin (state S.Store tx.old.conn.now) (state S.Store tx.new.conn.now) result }
+    ensures added { contains_key (projects_in (state S.Store tx.old.conn.now).now) name.now ≡ false
+        → TurnsWithin (after_put Put.Added name.now file.now)
+        (state S.Store tx.old.conn.now) (state S.Store tx.new.conn.now) result }
+    ensures within { RunsWithin
+        (state S.Store tx.old.conn.now) (state S.Store tx.new.conn.now) result }
 {
-    if !is_name(name.bytes()) {
-        return Err(Error::InvalidQuery);
-    }
     tx.execute(
         INSERT_PROJECT,
         &[ValueRef::Text(name.bytes()), ValueRef::Blob(file)],
@@ -186,9 +185,10 @@ fn replace_file<S: Alter>(
     file: &[u8],
 ) -> Result<usize, Error>
     ensures same_reference { tx.new.conn.ghost_name ≡ tx.old.conn.ghost_name }
-    ensures put { HasCleanDisk (state S.Store tx.new.conn.now) → IsTrue (state S.Store tx.old.conn.now).in_transaction → IsStore (state S.Store tx.old.conn.now).now
-        → OnOk result (HasTables (insert (projects_in (state S.Store tx.old.conn.now).now) name.now file.now) (results_in (state S.Store tx.old.conn.now).now) (state S.Store tx.new.conn.now).now) }
-    ensures within { RunsWithin (state S.Store tx.old.conn.now) (state S.Store tx.new.conn.now) result }
+    ensures put { TurnsWithin (after_put Put.Replaced name.now file.now)
+        (state S.Store tx.old.conn.now) (state S.Store tx.new.conn.now) result }
+    ensures within { RunsWithin
+        (state S.Store tx.old.conn.now) (state S.Store tx.new.conn.now) result }
 {
     delete_file(tx, name)?;
     insert_file(tx, name, file)
@@ -200,11 +200,16 @@ fn put_within<S: Alter>(
     file: &[u8],
 ) -> Result<Put, Error>
     ensures same_reference { tx.new.conn.ghost_name ≡ tx.old.conn.ghost_name }
-    ensures answer { HasCleanDisk (state S.Store tx.new.conn.now) → IsStore (state S.Store tx.old.conn.now).now
-        → IfOk result (λ put. put ≡ put_answer (projects_in (state S.Store tx.old.conn.now).now) name.now) }
-    ensures put { HasCleanDisk (state S.Store tx.new.conn.now) → IsTrue (state S.Store tx.old.conn.now).in_transaction → IsStore (state S.Store tx.old.conn.now).now
-        → IfOk result (λ put. HasTables (put_file put name.now file.now (projects_in (state S.Store tx.old.conn.now).now)) (results_in (state S.Store tx.old.conn.now).now) (state S.Store tx.new.conn.now).now) }
-    ensures within { IsStore (state S.Store tx.old.conn.now).now → RunsWithin (state S.Store tx.old.conn.now) (state S.Store tx.new.conn.now) result }
+    ensures answer { AnswersBy (λ k put. put ≡ put_answer k.projects name.now)
+        (state S.Store tx.old.conn.now) (state S.Store tx.new.conn.now) result }
+    ensures put { HasCleanDisk (state S.Store tx.new.conn.now)
+        → IsTrue (state S.Store tx.old.conn.now).in_transaction
+        → IsStore (state S.Store tx.old.conn.now).now
+        → IfOk result (λ put. HasTables
+        (after_put put name.now file.now (kept_in (state S.Store tx.old.conn.now).now))
+        (state S.Store tx.new.conn.now).now) }
+    ensures within { IsStore (state S.Store tx.old.conn.now).now
+        → RunsWithin (state S.Store tx.old.conn.now) (state S.Store tx.new.conn.now) result }
 {
     let put = put_of(tx, name)?;
     if put == Put::Full {
@@ -214,17 +219,20 @@ fn put_within<S: Alter>(
     Ok(put)
 }
 
-// Keeps a file under a name, unless the name is new and there are as many projects as a keeper takes.
+// Keeps a file under a name, unless the name is new and as many are kept as a keeper takes.
 pub fn keep_file<S: Alter>(
     conn: &mut Connection<S>,
     name: &ProjectName,
     file: &[u8],
 ) -> Result<Put, Error>
-    ensures answer { HasCleanDisk (state S.Store conn.new) → IsStore (state S.Store conn.old).now
-        → IfOk result (λ put. put ≡ put_answer (projects_in (state S.Store conn.old).now) name.now) }
+    ensures answer { AnswersBy (λ k put. put ≡ put_answer k.projects name.now)
+        (state S.Store conn.old) (state S.Store conn.new) result }
     ensures put { HasCleanDisk (state S.Store conn.new) → IsStore (state S.Store conn.old).now
-        → IfOk result (λ put. HasTables (put_file put name.now file.now (projects_in (state S.Store conn.old).now)) (results_in (state S.Store conn.old).now) (state S.Store conn.new).now) }
-    ensures err { HasCleanDisk (state S.Store conn.new) → IsTrue (state S.Store conn.new).is_open → IsStore (state S.Store conn.old).now
+        → IfOk result (λ put. HasTables
+        (after_put put name.now file.now (kept_in (state S.Store conn.old).now))
+        (state S.Store conn.new).now) }
+    ensures err { HasCleanDisk (state S.Store conn.new) → IsTrue (state S.Store conn.new).is_open
+        → IsStore (state S.Store conn.old).now
         → OnErr result ((state S.Store conn.new).now ≡ (state S.Store conn.old).now) }
 {
     if !conn.is_autocommit() {
@@ -238,12 +246,11 @@ pub fn keep_file<S: Alter>(
 
 // Gives up a project, and says whether it was kept.
 pub fn remove_file<S: Alter>(conn: &mut Connection<S>, name: &ProjectName) -> Result<bool, Error>
-    ensures kept { HasCleanDisk (state S.Store conn.new) → IsStore (state S.Store conn.old).now
-        → IfOk result (λ kept. kept ≡ contains_key (projects_in (state S.Store conn.old).now) name.now) }
-    ensures removed { HasCleanDisk (state S.Store conn.new) → IsStore (state S.Store conn.old).now
-        → OnOk result (HasTables (remove (projects_in (state S.Store conn.old).now) name.now) (results_in (state S.Store conn.old).now) (state S.Store conn.new).now) }
-    ensures err { HasCleanDisk (state S.Store conn.new) → IsTrue (state S.Store conn.new).is_open
-        → OnErr result ((state S.Store conn.new).now ≡ (state S.Store conn.old).now) }
+    ensures kept { AnswersBy (λ k kept. kept ≡ contains_key k.projects name.now)
+        (state S.Store conn.old) (state S.Store conn.new) result }
+    ensures removed { Turns (without_project name.now)
+        (state S.Store conn.old) (state S.Store conn.new) result }
+    ensures err { FailsAlone (state S.Store conn.old) (state S.Store conn.new) result }
 {
     let removed = execute(conn, DELETE_PROJECT, &[ValueRef::Text(name.bytes())])?;
     Ok(removed > 0)
@@ -261,16 +268,16 @@ fn name_in(row: &Row) -> Result<Option<ProjectName>, Error>
 
 // The rows of the projects by their names.
 fn named_rows<S: Alter>(conn: &mut Connection<S>) -> Result<Vec<Row>, Error>
-    ensures rows { HasCleanDisk (state S.Store conn.new) → IsStore (state S.Store conn.old).now
-        → IfOk result (λ rows. filter_map shown_name rows.items ≡ names_in (projects_in (state S.Store conn.old).now)) }
-    ensures stays { HasCleanDisk (state S.Store conn.new) → IsTrue (state S.Store conn.new).is_open
-        → IsStill (state S.Store conn.old).now (state S.Store conn.new).now }
+    ensures rows { AnswersBy (λ k rows. filter_map shown_name rows.items ≡ names_of k)
+        (state S.Store conn.old) (state S.Store conn.new) result }
+    ensures stays { IsRead (state S.Store conn.old) (state S.Store conn.new) }
 {
     query(conn, SELECT_NAMES, &[])
 }
 
 fn push_name(names: &mut Vec<ProjectName>, row: &Row) -> Result<(), Error>
-    ensures { OnOk result (names.new.items ≡ names.old.items ++ filter_map shown_name (row.now ∷ [])) }
+    ensures { OnOk result
+        (names.new.items ≡ names.old.items ++ filter_map shown_name (row.now ∷ [])) }
 {
     match name_in(row)? {
         Some(name) => Ok(names.push(name)?),
@@ -293,10 +300,9 @@ pub fn names_in_order<S: Alter>(
     alloc: Global,
     conn: &mut Connection<S>,
 ) -> Result<Vec<ProjectName>, Error>
-    ensures names { HasCleanDisk (state S.Store conn.new) → IsStore (state S.Store conn.old).now
-        → IfOk result (λ names. names.items ≡ names_in (projects_in (state S.Store conn.old).now)) }
-    ensures stays { HasCleanDisk (state S.Store conn.new) → IsTrue (state S.Store conn.new).is_open
-        → IsStill (state S.Store conn.old).now (state S.Store conn.new).now }
+    ensures names { AnswersBy (λ k names. names.items ≡ names_of k)
+        (state S.Store conn.old) (state S.Store conn.new) result }
+    ensures stays { IsRead (state S.Store conn.old) (state S.Store conn.new) }
 {
     let rows = named_rows(conn)?;
     names_shown(alloc, &rows)

@@ -1,12 +1,11 @@
 // The statements on the table `result`.
-ghost use Rattle.std.specs.Prelude.{◌≡◌, false, map, IfOk, OnOk, OnErr, IsTrue};
-ghost use Rattle.std.specs.FinMap.{entries, contains_key, insert, remove};
-ghost use Rattle.sqlite.specs.State.{HasCleanDisk};
+ghost use Rattle.std.specs.Prelude.{◌≡◌, false, map, IfOk, [], ◌∷◌};
+ghost use Rattle.std.specs.FinMap.{contains_key};
 ghost use Rattle.sqlite.specs.Held.{state};
 ghost use Rattle.result_keeper.specs.Entries.{pair_of};
-ghost use Rattle.result_keeper.specs.Kept.{contexts_in, within, put_rows};
-ghost use Rattle.sqlite_keeper.specs.Tables.{IsStore, projects_in, results_in, shown_text, shown_pair};
-ghost use Rattle.sqlite_keeper.specs.Changes.{HasTables, IsStill, RunsWithin};
+ghost use Rattle.result_keeper.specs.Kept.{within, contexts_of, results_of, with_rows};
+ghost use Rattle.sqlite_keeper.specs.Tables.{results_in, shown_text, shown_pair};
+ghost use Rattle.sqlite_keeper.specs.Changes.{RunsWithin, IsRead, AnswersBy, Turns, TurnsWithin, FailsAlone, without_row};
 
 use crate::autocommit::query;
 use result_keeper::StoredRow;
@@ -24,10 +23,9 @@ const INSERT_RESULT: &str = "INSERT INTO result(context, tree, value) VALUES (?1
 
 // A row for each context, in order.
 fn context_rows<S: Alter>(conn: &mut Connection<S>) -> Result<Vec<Row>, Error>
-    ensures rows { HasCleanDisk (state S.Store conn.new) → IsStore (state S.Store conn.old).now
-        → IfOk result (λ rows. map shown_text rows.items ≡ contexts_in (results_in (state S.Store conn.old).now)) }
-    ensures stays { HasCleanDisk (state S.Store conn.new) → IsTrue (state S.Store conn.new).is_open
-        → IsStill (state S.Store conn.old).now (state S.Store conn.new).now }
+    ensures rows { AnswersBy (λ k rows. map shown_text rows.items ≡ contexts_of k)
+        (state S.Store conn.old) (state S.Store conn.new) result }
+    ensures stays { IsRead (state S.Store conn.old) (state S.Store conn.new) }
 {
     query(conn, SELECT_CONTEXTS, &[])
 }
@@ -53,10 +51,9 @@ pub fn contexts_in_order<S: Alter>(
     alloc: Global,
     conn: &mut Connection<S>,
 ) -> Result<Vec<Vec<u8>>, Error>
-    ensures contexts { HasCleanDisk (state S.Store conn.new) → IsStore (state S.Store conn.old).now
-        → IfOk result (λ contexts. map (λ c. c.items) contexts.items ≡ contexts_in (results_in (state S.Store conn.old).now)) }
-    ensures stays { HasCleanDisk (state S.Store conn.new) → IsTrue (state S.Store conn.new).is_open
-        → IsStill (state S.Store conn.old).now (state S.Store conn.new).now }
+    ensures contexts { AnswersBy (λ k contexts. map (λ c. c.items) contexts.items ≡ contexts_of k)
+        (state S.Store conn.old) (state S.Store conn.new) result }
+    ensures stays { IsRead (state S.Store conn.old) (state S.Store conn.new) }
 {
     let rows = context_rows(conn)?;
     blobs_shown(alloc, &rows)
@@ -64,10 +61,9 @@ pub fn contexts_in_order<S: Alter>(
 
 // The rows of a context, in the order of their trees.
 fn rows_within<S: Alter>(conn: &mut Connection<S>, context: &[u8]) -> Result<Vec<Row>, Error>
-    ensures rows { HasCleanDisk (state S.Store conn.new) → IsStore (state S.Store conn.old).now
-        → IfOk result (λ rows. map shown_pair rows.items ≡ within context.now (entries (results_in (state S.Store conn.old).now))) }
-    ensures stays { HasCleanDisk (state S.Store conn.new) → IsTrue (state S.Store conn.new).is_open
-        → IsStill (state S.Store conn.old).now (state S.Store conn.new).now }
+    ensures rows { AnswersBy (λ k rows. map shown_pair rows.items ≡ results_of k context.now)
+        (state S.Store conn.old) (state S.Store conn.new) result }
+    ensures stays { IsRead (state S.Store conn.old) (state S.Store conn.new) }
 {
     query(conn, SELECT_RESULTS, &[ValueRef::Blob(context)])
 }
@@ -96,10 +92,9 @@ pub fn results_in_order<S: Alter>(
     conn: &mut Connection<S>,
     context: &[u8],
 ) -> Result<Vec<StoredRow>, Error>
-    ensures rows { HasCleanDisk (state S.Store conn.new) → IsStore (state S.Store conn.old).now
-        → IfOk result (λ found. map pair_of found.items ≡ within context.now (entries (results_in (state S.Store conn.old).now))) }
-    ensures stays { HasCleanDisk (state S.Store conn.new) → IsTrue (state S.Store conn.new).is_open
-        → IsStill (state S.Store conn.old).now (state S.Store conn.new).now }
+    ensures rows { AnswersBy (λ k found. map pair_of found.items ≡ results_of k context.now)
+        (state S.Store conn.old) (state S.Store conn.new) result }
+    ensures stays { IsRead (state S.Store conn.old) (state S.Store conn.new) }
 {
     let rows = rows_within(conn, context)?;
     rows_shown(alloc, &rows)
@@ -111,9 +106,10 @@ fn delete_row<S: Alter>(
     tree: &[u8],
 ) -> Result<usize, Error>
     ensures same_reference { tx.new.conn.ghost_name ≡ tx.old.conn.ghost_name }
-    ensures removed { HasCleanDisk (state S.Store tx.new.conn.now) → IsTrue (state S.Store tx.old.conn.now).in_transaction → IsStore (state S.Store tx.old.conn.now).now
-        → OnOk result (HasTables (projects_in (state S.Store tx.old.conn.now).now) (remove (results_in (state S.Store tx.old.conn.now).now) (context.now, tree.now)) (state S.Store tx.new.conn.now).now) }
-    ensures within { RunsWithin (state S.Store tx.old.conn.now) (state S.Store tx.new.conn.now) result }
+    ensures removed { TurnsWithin (without_row context.now tree.now)
+        (state S.Store tx.old.conn.now) (state S.Store tx.new.conn.now) result }
+    ensures within { RunsWithin
+        (state S.Store tx.old.conn.now) (state S.Store tx.new.conn.now) result }
 {
     tx.execute(
         DELETE_RESULT,
@@ -128,10 +124,12 @@ fn insert_row<S: Alter>(
     value: &[u8],
 ) -> Result<usize, Error>
     ensures same_reference { tx.new.conn.ghost_name ≡ tx.old.conn.ghost_name }
-    ensures added { HasCleanDisk (state S.Store tx.new.conn.now) → IsTrue (state S.Store tx.old.conn.now).in_transaction → IsStore (state S.Store tx.old.conn.now).now
-        → contains_key (results_in (state S.Store tx.old.conn.now).now) (context.now, tree.now) ≡ false
-        → OnOk result (HasTables (projects_in (state S.Store tx.old.conn.now).now) (insert (results_in (state S.Store tx.old.conn.now).now) (context.now, tree.now) value.now) (state S.Store tx.new.conn.now).now) }
-    ensures within { RunsWithin (state S.Store tx.old.conn.now) (state S.Store tx.new.conn.now) result }
+    ensures added { contains_key
+        (results_in (state S.Store tx.old.conn.now).now) (context.now, tree.now) ≡ false
+        → TurnsWithin (with_rows context.now ((tree.now, value.now) ∷ []))
+        (state S.Store tx.old.conn.now) (state S.Store tx.new.conn.now) result }
+    ensures within { RunsWithin
+        (state S.Store tx.old.conn.now) (state S.Store tx.new.conn.now) result }
 {
     tx.execute(
         INSERT_RESULT,
@@ -151,9 +149,10 @@ fn replace_row<S: Alter>(
     value: &[u8],
 ) -> Result<usize, Error>
     ensures same_reference { tx.new.conn.ghost_name ≡ tx.old.conn.ghost_name }
-    ensures put { HasCleanDisk (state S.Store tx.new.conn.now) → IsTrue (state S.Store tx.old.conn.now).in_transaction → IsStore (state S.Store tx.old.conn.now).now
-        → OnOk result (HasTables (projects_in (state S.Store tx.old.conn.now).now) (insert (results_in (state S.Store tx.old.conn.now).now) (context.now, tree.now) value.now) (state S.Store tx.new.conn.now).now) }
-    ensures within { RunsWithin (state S.Store tx.old.conn.now) (state S.Store tx.new.conn.now) result }
+    ensures put { TurnsWithin (with_rows context.now ((tree.now, value.now) ∷ []))
+        (state S.Store tx.old.conn.now) (state S.Store tx.new.conn.now) result }
+    ensures within { RunsWithin
+        (state S.Store tx.old.conn.now) (state S.Store tx.new.conn.now) result }
 {
     delete_row(tx, context, tree)?;
     insert_row(tx, context, tree, value)
@@ -165,9 +164,10 @@ fn put_each<S: Alter>(
     rows: &[StoredRow],
 ) -> Result<(), Error>
     ensures same_reference { tx.new.conn.ghost_name ≡ tx.old.conn.ghost_name }
-    ensures put { HasCleanDisk (state S.Store tx.new.conn.now) → IsTrue (state S.Store tx.old.conn.now).in_transaction → IsStore (state S.Store tx.old.conn.now).now
-        → OnOk result (HasTables (projects_in (state S.Store tx.old.conn.now).now) (put_rows context.now (map pair_of rows.now) (results_in (state S.Store tx.old.conn.now).now)) (state S.Store tx.new.conn.now).now) }
-    ensures within { RunsWithin (state S.Store tx.old.conn.now) (state S.Store tx.new.conn.now) result }
+    ensures put { TurnsWithin (with_rows context.now (map pair_of rows.now))
+        (state S.Store tx.old.conn.now) (state S.Store tx.new.conn.now) result }
+    ensures within { RunsWithin
+        (state S.Store tx.old.conn.now) (state S.Store tx.new.conn.now) result }
 {
     for row in rows {
         replace_row(tx, context, &row.tree, &row.value)?;
@@ -181,10 +181,9 @@ pub fn keep_rows<S: Alter>(
     context: &[u8],
     rows: &[StoredRow],
 ) -> Result<(), Error>
-    ensures put { HasCleanDisk (state S.Store conn.new) → IsStore (state S.Store conn.old).now
-        → OnOk result (HasTables (projects_in (state S.Store conn.old).now) (put_rows context.now (map pair_of rows.now) (results_in (state S.Store conn.old).now)) (state S.Store conn.new).now) }
-    ensures err { HasCleanDisk (state S.Store conn.new) → IsTrue (state S.Store conn.new).is_open
-        → OnErr result ((state S.Store conn.new).now ≡ (state S.Store conn.old).now) }
+    ensures put { Turns (with_rows context.now (map pair_of rows.now))
+        (state S.Store conn.old) (state S.Store conn.new) result }
+    ensures err { FailsAlone (state S.Store conn.old) (state S.Store conn.new) result }
 {
     if !conn.is_autocommit() {
         return Err(Error::SqliteFailure(ErrorCode::TransactionState));

@@ -1,4 +1,5 @@
 use super::*;
+use crate::version::migrate;
 use result_keeper::{ContextPair, Keeper, KeeperError, ProjectName, Put, QuietKeeper, StoredRow};
 use sqlite::{Connection, Error, MemStore, params};
 use std::alloc::{AllocError, Global};
@@ -22,8 +23,8 @@ fn row(alloc: Global, tree: &str, number: u32) -> Result<StoredRow, AllocError> 
 
 fn rows_of(alloc: Global, draw: u32) -> Result<Vec<StoredRow>, AllocError> {
     let mut rows = Vec::new(alloc);
-    for i in 0..draw % 5 {
-        let at = (draw / 5 + 3 * i) % 4;
+    for i in 0..draw % 7 {
+        let at = (draw / 7 + 3 * i) % 4;
         rows.push(row(alloc, TREES[at as usize], draw % 10 + i)?)?;
     }
     Ok(rows)
@@ -152,29 +153,20 @@ fn pair(alloc: Global, old: &str, new: &str) -> Result<ContextPair, AllocError> 
     })
 }
 
-// Migrates a store of version 1.
-fn migrate_old(
-    alloc: Global,
-    keeper: &mut SqliteKeeper<MemStore>,
-    pairs: &[ContextPair],
-) -> Result<(), KeeperError> {
-    if keeper.version() != 1 {
-        return Err(KeeperError::Failed);
-    }
-    keeper.migrate(alloc, pairs)
-}
-
 const OLD_RESULTS: &str =
     "INSERT INTO result(context, tree, value) VALUES (x'63', x'74', x'76'), (x'63', x'75', x'77'), (x'64', x'74', x'78')";
 
 #[test]
 fn migration_moves_the_rows_of_each_context(rt: HostRuntime) -> Result<(), Fail> {
     let alloc = rt.alloc();
-    let mut keeper = keeper_over(alloc, &[RESULT, OLD_RESULTS])?;
+    let old = keeper_over(alloc, &[RESULT, OLD_RESULTS])?;
+    assert_eq!(rt; old.version(), 1);
     let mut pairs = Vec::new(alloc);
     pairs.push(pair(alloc, "c", "new c")?)?;
     pairs.push(pair(alloc, "d", "new d")?)?;
-    migrate_old(alloc, &mut keeper, &pairs)?;
+    let mut conn = old.into_connection();
+    migrate(&mut conn, &pairs).expect(&rt, "a migration");
+    let mut keeper = SqliteKeeper::new(alloc, conn)?;
     assert_eq!(rt; keeper.version(), 2);
     for (context, count) in [("c", 0), ("d", 0), ("new c", 2), ("new d", 1)] {
         assert_eq!(rt;

@@ -6,10 +6,10 @@ pub returns-clause-kept : goal.returns-clause-kept
 returns-clause-kept g c = λ clean is.
     let old = state g.S.Store c.args.conn.now in
     let new = state g.S.Store c.execute.new.conn in
-    was_kept c.args.name.now old.now new.now c.in_ok-removed.removed is (removes_project old new c.args.name.now c.in_ok-removed.removed is (rw c.bytes.ensures at (c.in_ok-removed.ensures.runs clean)))
+    was_kept c.args.name.now old.now new.now c.in_ok-removed.removed is (removes_project old new c.args.name.now c.in_ok-removed.removed is (rw c.bytes.ensures.text at (c.in_ok-removed.ensures.runs clean)))
 
 pub returns-clause-removed : goal.returns-clause-removed
 returns-clause-removed g c = λ clean is.
     let old = state g.S.Store c.args.conn.now in
     let new = state g.S.Store c.execute.new.conn in
-    removed_tables c.args.name.now old.now new.now c.in_ok-removed.removed is (removes_project old new c.args.name.now c.in_ok-removed.removed is (rw c.bytes.ensures at (c.in_ok-removed.ensures.runs clean)))
+    removed_tables c.args.name.now old.now new.now c.in_ok-removed.removed is (removes_project old new c.args.name.now c.in_ok-removed.removed is (rw c.bytes.ensures.text at (c.in_ok-removed.ensures.runs clean)))

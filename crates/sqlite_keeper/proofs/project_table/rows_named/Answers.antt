@@ -1,12 +1,12 @@
 use Rattle.sqlite.specs.Held.{state}
-use Rattle.sqlite_keeper.proofs.Statements.{file_plain}
+use Rattle.sqlite_keeper.proofs.Statements.{file_is}
 use Rattle.sqlite_keeper.proofs.Undone.{query_still}
 use Rattle.sqlite_keeper.proofs.Finding.{file_of_if}
 use Rattle.sqlite_keeper.proofs.project_table.rows_named.Goals as goal
 
 pub returns-clause-rows : goal.returns-clause-rows
-returns-clause-rows g c = λ clean is. file_of_if (state g.S.Store c.args.conn.now) (state g.S.Store c.query.new.conn) c.args.name.now c.query.result is (rw c.bytes.ensures at (c.query.ensures.shown clean))
+returns-clause-rows g c = λ clean is. file_of_if (state g.S.Store c.args.conn.now) (state g.S.Store c.query.new.conn) c.args.name.now c.query.result is (rw c.bytes.ensures.text at (c.query.ensures.shown clean))
 
 pub returns-clause-stays : goal.returns-clause-stays
 returns-clause-stays g c = λ clean live.
-    query_still _ _ (state g.S.Store c.args.conn.now) (state g.S.Store c.query.new.conn) c.query.result file_plain (c.query.ensures.shown clean) (c.query.ensures.err clean live)
+    query_still _ _ (state g.S.Store c.args.conn.now) (state g.S.Store c.query.new.conn) c.query.result file_is.plain (c.query.ensures.shown clean) (c.query.ensures.err clean live)

@@ -1,5 +1,5 @@
 use Rattle.sqlite.specs.Held.{state}
-use Rattle.sqlite_keeper.proofs.Statements.{contexts_plain}
+use Rattle.sqlite_keeper.proofs.Statements.{contexts_is}
 use Rattle.sqlite_keeper.proofs.Undone.{query_still}
 use Rattle.sqlite_keeper.proofs.Contexts.{contexts_of_rows_if}
 use Rattle.sqlite_keeper.proofs.result_table.context_rows.Goals as goal
@@ -9,4 +9,4 @@ returns-clause-rows g c = λ clean is. contexts_of_rows_if (state g.S.Store c.ar
 
 pub returns-clause-stays : goal.returns-clause-stays
 returns-clause-stays g c = λ clean live.
-    query_still _ _ (state g.S.Store c.args.conn.now) (state g.S.Store c.query.new.conn) c.query.result contexts_plain (c.query.ensures.shown clean) (c.query.ensures.err clean live)
+    query_still _ _ (state g.S.Store c.args.conn.now) (state g.S.Store c.query.new.conn) c.query.result contexts_is.plain (c.query.ensures.shown clean) (c.query.ensures.err clean live)

@@ -1,16 +1,16 @@
 use Rattle.std.proofs.Common.{◌+◌, ◌++◌, [], ◌∷◌, Ok, refl, sym, ap, subst, ◌∙◌, arith, map, take}
-use Rattle.std.proofs.lemmas.List.{take_more}
+use Rattle.std.proofs.lemmas.List.{take_more, take_all}
 use Rattle.sqlite.specs.Held.{state}
 use Rattle.result_keeper.specs.Entries.{pair_of}
-use Rattle.result_keeper.specs.Kept.{put_rows}
-use Rattle.sqlite_keeper.specs.Tables.{projects_in, results_in}
+use Rattle.result_keeper.specs.Kept.{with_rows}
+use Rattle.sqlite_keeper.specs.Told.{kept_in}
 use Rattle.sqlite_keeper.specs.Changes.{HasTables}
 use Rattle.sqlite_keeper.proofs.Within.{within_here, within_then, within_ok, within_fails}
-use Rattle.sqlite_keeper.proofs.ResultRows.{put_more, all_taken}
+use Rattle.sqlite_keeper.proofs.ResultRows.{put_more}
 use Rattle.sqlite_keeper.proofs.result_table.put_each.Goals as goal
 
 pub loop-row-init : goal.loop-row-init
-loop-row-init g c = (refl, within_here (state g.S.Store c.args.tx.now.conn.now), λ clean on is. record { is = is; projects = refl; rows = refl })
+loop-row-init g c = (refl, within_here (state g.S.Store c.args.tx.now.conn.now), λ clean on is. record { is = is; version = refl; projects = refl; rows = refl })
 
 pub returns-in_err-replace_row-clause-same_reference : goal.returns-in_err-replace_row-clause-same_reference
 returns-in_err-replace_row-clause-same_reference g c = c.replace_row.ensures.same_reference ∙ c.loop-row.invariant.0
@@ -49,8 +49,8 @@ pub returns-clause-put : goal.returns-clause-put
 returns-clause-put g c = λ clean on is.
     let first = state g.S.Store c.args.tx.now.conn.now in
     let rows = c.args.rows.now in
-    subst (λ l. HasTables (projects_in first.now) (put_rows c.args.context.now (map pair_of l) (results_in first.now)) (state g.S.Store c.loop-row.tx.conn.now).now)
-    (all_taken rows c.loop-row.row-index (omega (arith, c.loop-row-test.false))) (c.loop-row.invariant.2 clean on is)
+    subst (λ l. HasTables (with_rows c.args.context.now (map pair_of l) (kept_in first.now)) (state g.S.Store c.loop-row.tx.conn.now).now)
+    (take_all c.loop-row.row-index rows (omega (arith, c.loop-row-test.false))) (c.loop-row.invariant.2 clean on is)
 
 pub returns-clause-within : goal.returns-clause-within
 returns-clause-within g c = c.loop-row.invariant.1

@@ -1,5 +1,5 @@
 use Rattle.sqlite.specs.Held.{state}
-use Rattle.sqlite_keeper.proofs.Statements.{results_plain}
+use Rattle.sqlite_keeper.proofs.Statements.{results_is}
 use Rattle.sqlite_keeper.proofs.Undone.{query_still}
 use Rattle.sqlite_keeper.proofs.Results.{results_of_rows_if}
 use Rattle.sqlite_keeper.proofs.result_table.rows_within.Goals as goal
@@ -9,4 +9,4 @@ returns-clause-rows g c = λ clean is. results_of_rows_if (state g.S.Store c.arg
 
 pub returns-clause-stays : goal.returns-clause-stays
 returns-clause-stays g c = λ clean live.
-    query_still _ _ (state g.S.Store c.args.conn.now) (state g.S.Store c.query.new.conn) c.query.result results_plain (c.query.ensures.shown clean) (c.query.ensures.err clean live)
+    query_still _ _ (state g.S.Store c.args.conn.now) (state g.S.Store c.query.new.conn) c.query.result results_is.plain (c.query.ensures.shown clean) (c.query.ensures.err clean live)

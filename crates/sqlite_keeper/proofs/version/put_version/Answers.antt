@@ -1,5 +1,5 @@
 use Rattle.sqlite.specs.Held.{state}
-use Rattle.sqlite_keeper.proofs.Making.{version_kept}
+use Rattle.sqlite_keeper.proofs.Versions.{version_kept}
 use Rattle.sqlite_keeper.proofs.version.put_version.Goals as goal
 
 pub returns : goal.returns

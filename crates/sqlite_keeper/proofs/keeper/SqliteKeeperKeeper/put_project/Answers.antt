@@ -1,3 +1,4 @@
+use Rattle.std.proofs.Common.{refl}
 use Rattle.sqlite.specs.Held.{state}
 use Rattle.result_keeper.specs.Kept.{after_put}
 use Rattle.sqlite_keeper.proofs.Telling.{told_answer, told_becomes, told_stays, kept_is}
@@ -11,10 +12,10 @@ returns-in-Ok-clause-answer g c =
 
 pub returns-in-Ok-clause-put : goal.returns-in-Ok-clause-put
 returns-in-Ok-clause-put g c =
-    told_becomes g.S.Steady.is_steady c.args.self.now.is_old (state g.S.Store c.args.self.now.conn).now (state g.S.Store c.keep_file.new.conn).now (after_put c.in-Ok.put c.args.name.now c.args.file.now) (λ steady is.
+    told_becomes g.S.Steady.is_steady c.args.self.now.is_old (state g.S.Store c.args.self.now.conn).now (state g.S.Store c.keep_file.new.conn).now (after_put c.in-Ok.put c.args.name.now c.args.file.now) (λ k. refl) (λ steady is.
     let sure = g.met.S.Steady.stays c.keep_file.new.conn.store steady in
     let it = c.in-Ok.ensures.put sure.clean is in
-    (it.is, kept_is _ _ _ it))
+    (it.is, kept_is _ _ it))
 
 pub returns-in-Err-clause-err : goal.returns-in-Err-clause-err
 returns-in-Err-clause-err g c =
