@@ -1,0 +1,5 @@
+pub mod EmptyTrees
+pub mod LastSpaces
+pub mod NumberTexts
+pub mod RowsRead
+pub mod Tables
