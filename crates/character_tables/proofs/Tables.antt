@@ -45,7 +45,8 @@ row_unique ty accepted r s h g e =
     let value : r.1 ≡ s.1 = number_exact r.1 s.1 both.1 in
     ap (λ (t : Plain). pair t r.1) tree ∙ ap (pair s.0) value
 
-pub rows_unique : (ty : Types) → AreTypes ty → (rs ss : List Row) → AllByRecursion (IsRow ty) rs → AllByRecursion (IsRow ty) ss → map (row_text ty) rs ≡ map (row_text ty) ss → rs ≡ ss
+pub rows_unique : (ty : Types) → AreTypes ty → (rs ss : List Row) → AllByRecursion (IsRow ty) rs → AllByRecursion (IsRow ty) ss → map (row_text ty) rs ≡ map (row_text ty) ss →
+    rs ≡ ss
 rows_unique ty accepted [] [] h g e = refl
 rows_unique ty accepted [] (s ∷ ss) h g e = absurd cc
 rows_unique ty accepted (r ∷ rs) [] h g e = absurd cc

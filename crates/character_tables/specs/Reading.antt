@@ -4,8 +4,8 @@
 --   IsRowOf ty line r == r is a row, and line is its text
 --   AreBefore ts t == each of the trees ts comes before t in tree order
 --   IsReadRow c line r == r is a row of a tree of the pool, and line is its text
---   AreReadRows c ls rs == rs are rows of trees of the pool, they are a table, and ls are the texts of
---       its rows
+--   AreReadRows c ls rs == rs are rows of trees of the pool, they are a table, and ls are the texts
+--       of its rows
 use Rattle.std.specs.Prelude.{◌≡◌, ◌≢◌, ℕ, ◌<◌, ◌==◌, if◌then◌else◌, List, [], ◌∷◌, length, Option, Some, None}
 use Rattle.std.specs.List.{AllByRecursion}
 use Rattle.std.specs.declared.cmp.Ordering.TheVariants.{Less}

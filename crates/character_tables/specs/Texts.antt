@@ -5,6 +5,7 @@
 --       edges and a decoration sum of at most 64
 --   IsRow ty r == r is a row of such a tree, its absolute value at most 2^127-1
 --   IsTable ty rs == rs are such rows, in strictly ascending tree order
+--   without_empty_end ps == the parts ps without the last, where that is empty
 --   lines_of text == the lines of a text: its parts between the places of LF, without the last
 --       where that is empty
 --   HasLines ty ls rs == rs is a table, and ls are the texts of its rows
@@ -48,7 +49,6 @@ pub record IsTable (ty : Types) (rs : List Row) : Type 0 where
   pub rows : AllByRecursion (IsRow ty) rs
   pub ascending : IsStrictlySortedBy tree_order (trees_in rs)
 
--- the parts without the last, where that is empty
 abbrev pub without_empty_end : List (List ℕ) → List (List ℕ)
 without_empty_end ps =
     cond (length (slice_index_or ps (length ps - 1) []) == 0) (take (length ps - 1) ps) ps

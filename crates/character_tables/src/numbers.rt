@@ -18,8 +18,8 @@ fn in_range(value: Saturated) -> Option<i128>
 
 /// The number above 0 with these digits, where it is in range.
 fn positive(digits: &[u8]) -> Option<i128>
-    ensures value { IfSome result (λ z. (0 < unsigned_abs z) × (z ≡ pos (unsigned_abs z)) × IsValue z
-        × (numeral (unsigned_abs z) ≡ digits.now)) }
+    ensures value { IfSome result (λ z. (0 < unsigned_abs z) × (z ≡ pos (unsigned_abs z))
+        × IsValue z × (numeral (unsigned_abs z) ≡ digits.now)) }
     ensures back { (n : ℕ) → 0 < n → n < overflow → numeral n ≡ digits.now → result ≡ Some (pos n) }
 {
     if !is_numeral(digits) {

@@ -32,11 +32,13 @@ module _ (c : Content) (rs : List Row) where
   pub lacking_step : (ids : List TreeId) (i : ℕ) (id : TreeId) (old new whole : List Plain) → i < length ids → id ≡ get_or ids i id →
       new ≡ old ++ lacking rs (tree_at c id.0 ∷ []) → old ++ lacking rs (trees_of c (drop i ids)) ≡ whole → new ++ lacking rs (trees_of c (drop (i + 1) ids)) ≡ whole
   lacking_step =
-      row_step (λ (ids : List TreeId). lacking rs (trees_of c ids)) (λ (id : TreeId). lacking rs (tree_at c id.0 ∷ [])) (λ id ids. lacking_parts rs (tree_at c id.0) (trees_of c ids))
+      row_step (λ (ids : List TreeId). lacking rs (trees_of c ids)) (λ (id : TreeId). lacking rs (tree_at c id.0 ∷ [])) (λ id ids. lacking_parts rs (tree_at c id.0) (trees_of c
+          ids))
 
 module _ (c : Content) (gs hs : List Row) where
   -- one question
-  pub missing_of : (a : Asked) (old middle new : List Plain) → middle ≡ old ++ lacking gs (trees_of c a.first.now) → new ≡ middle ++ lacking hs (trees_of c (option_to_list a.second)) →
+  pub missing_of : (a : Asked) (old middle new : List Plain) → middle ≡ old ++ lacking gs (trees_of c a.first.now) → new ≡ middle ++ lacking hs (trees_of c (option_to_list
+      a.second)) →
       new ≡ old ++ missing gs hs (asked_in c a ∷ [])
   missing_of a old middle new e f =
       let first = lacking gs (trees_of c a.first.now) in
@@ -47,4 +49,5 @@ module _ (c : Content) (gs hs : List Row) where
       new ≡ old ++ missing gs hs (asked_in c a ∷ []) → old ++ missing gs hs (map (asked_in c) (drop i asks)) ≡ whole →
       new ++ missing gs hs (map (asked_in c) (drop (i + 1) asks)) ≡ whole
   missing_step =
-      row_step (λ (asks : List Asked). missing gs hs (map (asked_in c) asks)) (λ (a : Asked). missing gs hs (asked_in c a ∷ [])) (λ a asks. missing_parts gs hs (asked_in c a) (map (asked_in c) asks))
+      row_step (λ (asks : List Asked). missing gs hs (map (asked_in c) asks)) (λ (a : Asked). missing gs hs (asked_in c a ∷ [])) (λ a asks. missing_parts gs hs (asked_in c a)
+          (map (asked_in c) asks))

@@ -17,7 +17,8 @@ use Rattle.character_tables.specs.declared.CharacterRow.{CharacterRow}
 use Rattle.character_tables.specs.Rows.{rows_over, AreKnownRows}
 use Rattle.characters.specs.Sums.{row_of}
 
-pub empty_at : (c : Content) (i : ℕ) (n : List ℕ) (es : List EdgeTo) (b : Bool) → Holds c i (tree_over c.trees n es) → length es ≡ 0 → b ≡ is_zero n → b ≡ is_empty_tree (tree_at c i)
+pub empty_at : (c : Content) (i : ℕ) (n : List ℕ) (es : List EdgeTo) (b : Bool) → Holds c i (tree_over c.trees n es) → length es ≡ 0 → b ≡ is_zero n → b ≡ is_empty_tree (tree_at
+    c i)
 empty_at c i n [] b h l e = e ∙ ap is_empty_tree (sym (at_holds c i (bare n) h))
 empty_at c i n (f ∷ es) b h l e = absurd (omega (arith, l))
 
@@ -65,7 +66,8 @@ module _ (c : Content) (pooled : IsPooled c) (rs : List CharacterRow) (known : A
   pub row_here : nat_eq r.tree.0 j ≡ true → row_of (rows_over c (drop i rs)) (tree_at c j) ≡ Some r.value
   row_here e = rw e at next_row
 
-  pub row_further : (whole : Option ℤ) → nat_eq r.tree.0 j ≡ false → row_of (rows_over c (drop i rs)) (tree_at c j) ≡ whole → row_of (rows_over c (drop (i + 1) rs)) (tree_at c j) ≡ whole
+  pub row_further : (whole : Option ℤ) → nat_eq r.tree.0 j ≡ false → row_of (rows_over c (drop i rs)) (tree_at c j) ≡ whole → row_of (rows_over c (drop (i + 1) rs)) (tree_at c
+      j) ≡ whole
   row_further whole e h = let s = rw e at next_row in sym s ∙ h
 
 pub no_row : (c : Content) (rs : List CharacterRow) (i : ℕ) (t : Plain) (whole : Option ℤ) → length rs ≤ i → row_of (rows_over c (drop i rs)) t ≡ whole → None ≡ whole

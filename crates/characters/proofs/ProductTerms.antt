@@ -48,14 +48,16 @@ module _ (c : Content) (gs hs : List Row) (asks : List Asked) (i : ℕ) (a : Ask
       omega (arith, all, product_size (factors gs hs (asked_in c a)), h)
 
 -- one term more
-pub term_pushed : (c : Content) (gs hs : List Row) (a : Asked) (terms new : List (TreeId × ℤ)) (z : ℤ) → z ≡ product_of (factors gs hs (asked_in c a)) → new ≡ terms ++ (a.key, z) ∷ [] →
+pub term_pushed : (c : Content) (gs hs : List Row) (a : Asked) (terms new : List (TreeId × ℤ)) (z : ℤ) → z ≡ product_of (factors gs hs (asked_in c a)) → new ≡ terms ++ (a.key,
+    z) ∷ [] →
     terms_over c new ≡ terms_over c terms ++ answer gs hs (asked_in c a) ∷ []
 term_pushed c gs hs a terms new z e p =
     ap (terms_over c) p ∙ map-append (λ (t : TreeId × ℤ). (tree_at c t.0.0, t.1)) terms ((a.key, z) ∷ [])
     ∙ ap (λ (y : ℤ). terms_over c terms ++ (tree_at c a.key.0, y) ∷ []) e
 
 pub term_step : (c : Content) (gs hs : List Row) (asks : List Asked) (i : ℕ) (a : Asked) (old new whole : List (Plain × ℤ)) → i < length asks → a ≡ get_or asks i a →
-    new ≡ old ++ answer gs hs (asked_in c a) ∷ [] → old ++ answers gs hs (map (asked_in c) (drop i asks)) ≡ whole → new ++ answers gs hs (map (asked_in c) (drop (i + 1) asks)) ≡ whole
+    new ≡ old ++ answer gs hs (asked_in c a) ∷ [] → old ++ answers gs hs (map (asked_in c) (drop i asks)) ≡ whole → new ++ answers gs hs (map (asked_in c) (drop (i + 1) asks)) ≡
+        whole
 term_step c gs hs = row_step (λ (asks : List Asked). answers gs hs (map (asked_in c) asks)) (λ (a : Asked). answer gs hs (asked_in c a) ∷ []) (λ a asks. refl)
 
 -- what the sizes say of the trees
@@ -72,9 +74,11 @@ module _ {T : Type 0} (c : Content) (terms : List (TreeId × ℤ)) (ps : List (P
   past_range (Err e) h = subst (λ (f : CharacterError). IsNotGiven c ms (size_of ps) f) (sym h.0) (none, omega (arith, size_is c terms ps are, h.1))
 
 -- why a product is refused
-pub not_given : (c : Content) (ms : List Plain) (most : ℕ) (e : CharacterError) → ms ≡ [] → (e ≡ Memory) ⊎ ((e ≡ CoefficientTooLarge Sum) × (overflow ≤ most)) → IsNotGiven c ms most e
+pub not_given : (c : Content) (ms : List Plain) (most : ℕ) (e : CharacterError) → ms ≡ [] → (e ≡ Memory) ⊎ ((e ≡ CoefficientTooLarge Sum) × (overflow ≤ most)) → IsNotGiven c ms
+    most e
 not_given c ms most e none (inl m) = subst (λ (f : CharacterError). IsNotGiven c ms most f) (sym m) tt
 not_given c ms most e none (inr t) = subst (λ (f : CharacterError). IsNotGiven c ms most f) (sym t.0) (none, t.1)
 
-pub terms_known : (c : Content) (terms new : List (TreeId × ℤ)) (key : TreeId) (z : ℤ) → new ≡ terms ++ (key, z) ∷ [] → key.0 < length c.trees → AreKnownTerms c terms → AreKnownTerms c new
+pub terms_known : (c : Content) (terms new : List (TreeId × ℤ)) (key : TreeId) (z : ℤ) → new ≡ terms ++ (key, z) ∷ [] → key.0 < length c.trees → AreKnownTerms c terms →
+    AreKnownTerms c new
 terms_known c terms new key z e k h = rw e (all_append (λ (t : TreeId × ℤ). t.0.0 < length c.trees) terms ((key, z) ∷ []) h (k, tt))

@@ -98,7 +98,8 @@ module _ (c d : Content) (grown : IsGrown c d) (g : List CharacterRow) (known_g 
 module _ {K T : Type 0} (c : Content) (xs : List (K × ℕ)) (range : AreInRange xs) (ms ns : List Plain) (ps qs : List (Plain × ℤ)) (same : ms ≡ ns) (sums : ps ≡ qs)
     (r : Result T CharacterError) where
   pub given_is : OnOk r ((ms ≡ []) × (size_of ps < overflow)) → OnOk r (IsGiven xs ns (size_of qs))
-  given_is h = all r (subst (λ (us : List (Plain × ℤ)). OnOk r ((ns ≡ []) × (size_of us < overflow))) sums (subst (λ (ts : List Plain). OnOk r ((ts ≡ []) × (size_of ps < overflow))) same h))
+  given_is h = all r (subst (λ (us : List (Plain × ℤ)). OnOk r ((ns ≡ []) × (size_of us < overflow))) sums (subst (λ (ts : List Plain). OnOk r ((ts ≡ []) × (size_of ps <
+      overflow))) same h))
     where
       all : (s : Result T CharacterError) → OnOk s ((ns ≡ []) × (size_of qs < overflow)) → OnOk s (IsGiven xs ns (size_of qs))
       all (Ok t) g = record { range = range; rows = g.0; size = g.1 }

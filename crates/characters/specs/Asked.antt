@@ -2,21 +2,25 @@
 --   Question == of a term: the tree by which is summed, the coefficient, the trees that the first
 --       character is asked for, and those that the second is asked for
 --   asked_in c a == the question a, by the numbers of a pool
+--   AreTrees c ids == the numbers ids are those of trees of the pool
+--   IsKnown c a == the numbers of the question a are such numbers
 --   AreKnown c qs == the numbers of the questions qs are those of trees of the pool
 --   factors gs hs q == the coefficient, and the values of hs and of gs at the trees that they are
 --       asked for
---   answers gs hs qs == of each question the tree with the product of the factors
+--   answer gs hs q, answers gs hs qs == of a question, of each question the tree with the product of
+--       the factors
 --   missing gs hs qs == the trees that are asked for and lack a row
 --   answers_in c g h qs, missing_in c g h qs == the same, by the numbers of a pool
 --   left_question, right_question, question == what the three sums ask of a term
 --   left_answers, left_missing, right_answers, right_missing, both_answers, both_missing == the
 --       products and the missing trees of these questions
 --   terms_over c ts == the terms ts, by the numbers of a pool
+--   AreKnownTerms c ts == the numbers of ts are those of trees of the pool
 --   key_order c s t == the order of the trees of two terms; a number of nothing comes first
 --   line_of t == the line of the term t
 --   refusal_of e, right_refusal_of e == the refusal of a coproduct, as one of a sum
---   IsNotGiven c missing size e == e names the first of these that stands against the sum: a tree
---       that lacks a row, and a sum of the absolute products that passes 2^127-1; or memory is wanted
+--   IsNotGiven c missing most e == e names the first of these that stands against the sum: a tree
+--       that lacks a row, and absolute products with a sum past 2^127-1; or memory is wanted
 use Rattle.std.specs.Prelude.{◌≡◌, ℕ, ℤ, ◌<◌, ◌≤◌, List, [], ◌∷◌, ◌++◌, map, flat_map, length, option_to_list, ⊤}
 use Rattle.std.specs.List.{AllByRecursion}
 use Rattle.std.specs.declared.cmp.Ordering.{Ordering}
@@ -132,8 +136,8 @@ right_refusal_of recentring_error.CoefficientTooLarge = CoefficientTooLarge Copr
 right_refusal_of recentring_error.Memory = Memory
 
 abbrev pub IsNotGiven : Content → List Plain → ℕ → CharacterError → Type 0
-IsNotGiven c missing size (CoefficientTooLarge Coproduct) = ⊥
-IsNotGiven c missing size (Missing i) = (i.0 < length c.trees) × IsFirst missing (tree_at c i.0)
-IsNotGiven c missing size (CoefficientTooLarge Sum) = (missing ≡ []) × (overflow ≤ size)
-IsNotGiven c missing size (TableRefused line) = ⊥
-IsNotGiven c missing size Memory = ⊤
+IsNotGiven c missing most (CoefficientTooLarge Coproduct) = ⊥
+IsNotGiven c missing most (Missing i) = (i.0 < length c.trees) × IsFirst missing (tree_at c i.0)
+IsNotGiven c missing most (CoefficientTooLarge Sum) = (missing ≡ []) × (overflow ≤ most)
+IsNotGiven c missing most (TableRefused line) = ⊥
+IsNotGiven c missing most Memory = ⊤

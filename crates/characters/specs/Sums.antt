@@ -1,6 +1,7 @@
 -- Sums over the terms of the coproducts, with characters that tables give. A character is
 -- multiplicative on forests, and 1 at the empty tree.
 --   row_of rs t == the value in the row of t, where the rows rs have one
+--   value_in o == the value o, and 0 where there is none; is_none o == there is none
 --   value_of rs t == the character of the rows rs at t: 1 at the empty tree, else the value in the
 --       row of t, and 0 where there is none
 --   on_forest rs ts == the same on a forest: the product of its values at the trees
@@ -17,15 +18,16 @@
 --   sum_of ps == the sum of the products ps
 --   lines_over c ls == the lines ls, by the numbers of a pool, as trees with coefficients
 --   AreKnownLines c ls == the numbers of ls are those of trees of the pool
---   IsLeftSum gs xs ls, IsRightSum fs xs ls == the lines ls are the sum of these products by tree: in
---       tree order, without zeros
+--   IsLeftSum gs xs ls, IsRightSum fs xs ls == the lines ls are the sum of these products by tree:
+--       in tree order, without zeros
 --   product_sum gs hs xs == the sum of all products with two characters
 --   IsFirst ts t == t is one of the trees ts, and the first of them in tree order
 --   IsGiven xs missing most == nothing stands against a sum over the terms xs: each coefficient is
 --       at most 2^127-1, no tree lacks a row, and the absolute products sum up to at most 2^127-1
---   IsRefused c xs missing size e == e names the first of these three that fails, or memory is wanted
---   IsAskedOnce old new id before after == nothing more is finished and the count stays; or the tree
---       is finished now, and counted
+--   IsRefused c xs missing most e == e names the first of these three that fails, or memory is
+--       wanted
+--   IsAskedOnce old new id before after == nothing more is finished and the count stays; or the
+--       tree is finished now, and counted
 use Rattle.std.specs.Prelude.{◌≡◌, ℕ, ℤ, pos, ◌+ℤ◌, ◌*ℤ◌, ◌<◌, ◌≤◌, ◌⊎◌, Bool, true, false, not, ◌&&◌, if◌then◌else◌, List, [], ◌∷◌, ◌++◌, map, filter, flat_map, length, Option, Some, None, ⊤}
 use Rattle.std.specs.List.{AllByRecursion}
 use Rattle.std.specs.Ordering.{is_eq, is_gt}
@@ -116,13 +118,13 @@ pub record IsGiven {K : Type 0} (xs : List (K × ℕ)) (missing : List Plain) (m
 
 abbrev pub IsRefused : {K : Type 0} → Content → List (K × ℕ) → List Plain → ℕ → CharacterError →
     Type 0
-IsRefused c xs missing size (CoefficientTooLarge Coproduct) = AreInRange xs → ⊥
-IsRefused c xs missing size (Missing i) =
+IsRefused c xs missing most (CoefficientTooLarge Coproduct) = AreInRange xs → ⊥
+IsRefused c xs missing most (Missing i) =
     AreInRange xs × (i.0 < length c.trees) × IsFirst missing (tree_at c i.0)
-IsRefused c xs missing size (CoefficientTooLarge Sum) =
-    AreInRange xs × (missing ≡ []) × (overflow ≤ size)
-IsRefused c xs missing size (TableRefused line) = ⊥
-IsRefused c xs missing size Memory = ⊤
+IsRefused c xs missing most (CoefficientTooLarge Sum) =
+    AreInRange xs × (missing ≡ []) × (overflow ≤ most)
+IsRefused c xs missing most (TableRefused line) = ⊥
+IsRefused c xs missing most Memory = ⊤
 
 abbrev pub IsAskedOnce : TablesContent → TablesContent → ℕ → ℕ → ℕ → Type 0
 IsAskedOnce old new id before after =

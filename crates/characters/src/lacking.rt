@@ -20,7 +20,8 @@ fn push_lacking(
 ) -> Result<(), AllocError>
     requires known { id.0 < length pool.now.trees }
     requires rows { AreKnownRows pool.now table.now.rows }
-    ensures trees { OnOk result (trees_of pool.now found.new.items ≡ trees_of pool.now found.old.items
+    ensures trees { OnOk result (trees_of pool.now found.new.items
+        ≡ trees_of pool.now found.old.items
         ++ lacking (rows_over pool.now table.now.rows) (tree_at pool.now id.0 ∷ [])) }
     ensures known { AreTrees pool.now found.old.items →
         OnOk result (AreTrees pool.now found.new.items) }
@@ -40,7 +41,8 @@ fn push_all_lacking(
 ) -> Result<(), AllocError>
     requires known { AreTrees pool.now ids.now }
     requires rows { AreKnownRows pool.now table.now.rows }
-    ensures trees { OnOk result (trees_of pool.now found.new.items ≡ trees_of pool.now found.old.items
+    ensures trees { OnOk result (trees_of pool.now found.new.items
+        ≡ trees_of pool.now found.old.items
         ++ lacking (rows_over pool.now table.now.rows) (trees_of pool.now ids.now)) }
     ensures known { AreTrees pool.now found.old.items →
         OnOk result (AreTrees pool.now found.new.items) }
@@ -62,7 +64,8 @@ fn push_missing(
     requires known { IsKnown pool.now asked.now }
     requires g { AreKnownRows pool.now g.now.rows }
     requires h { AreKnownRows pool.now h.now.rows }
-    ensures trees { OnOk result (trees_of pool.now found.new.items ≡ trees_of pool.now found.old.items
+    ensures trees { OnOk result (trees_of pool.now found.new.items
+        ≡ trees_of pool.now found.old.items
         ++ missing (rows_over pool.now g.now.rows) (rows_over pool.now h.now.rows)
         (asked_in pool.now asked.now ∷ [])) }
     ensures known { AreTrees pool.now found.old.items →

@@ -6,7 +6,8 @@ pub returns-then-not-is_numeral-clause-back : goal.returns-then-not-is_numeral-c
 returns-then-not-is_numeral-clause-back c = λ n some lt h. absurd (none_back c.args.digits.now n (sym c.is_numeral.ensures ∙ c.if-not-is_numeral.true) some h)
 
 pub returns-clause-value : goal.returns-clause-value
-returns-clause-value c = value_is c.args.digits.now c.magnitude.result c.in_range.result (sym c.is_numeral.ensures ∙ c.if-not-is_numeral.false) c.magnitude.ensures c.in_range.ensures.value c.in_range.ensures.fits
+returns-clause-value c = value_is c.args.digits.now c.magnitude.result c.in_range.result (sym c.is_numeral.ensures ∙ c.if-not-is_numeral.false) c.magnitude.ensures
+    c.in_range.ensures.value c.in_range.ensures.fits
 
 pub returns-clause-back : goal.returns-clause-back
 returns-clause-back c = λ n some lt h. value_back c.args.digits.now c.magnitude.result c.in_range.result n c.magnitude.ensures c.in_range.ensures.value lt h

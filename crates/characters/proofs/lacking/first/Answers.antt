@@ -19,6 +19,8 @@ loop-id-preserved c =
     let id = get_or ids i blank in
     let at = get_or_default ids i blank id lt in
     elim c.if-is_lt.branch [
-      | then-is_lt w ↦ rw w.first-is (first_now c.args.pool.now ids c.requires i id c.loop-id.first c.order.result c.is_lt.result lt at c.order.ensures c.is_lt.ensures c.loop-id.invariant w.if-is_lt.true)
-      | else-is_lt w ↦ rw w.first-is (first_still c.args.pool.now ids c.requires i id c.loop-id.first c.order.result c.is_lt.result lt at c.order.ensures c.is_lt.ensures c.loop-id.invariant w.if-is_lt.false)
+      | then-is_lt w ↦ rw w.first-is (first_now c.args.pool.now ids c.requires i id c.loop-id.first c.order.result c.is_lt.result lt at c.order.ensures c.is_lt.ensures
+          c.loop-id.invariant w.if-is_lt.true)
+      | else-is_lt w ↦ rw w.first-is (first_still c.args.pool.now ids c.requires i id c.loop-id.first c.order.result c.is_lt.result lt at c.order.ensures c.is_lt.ensures
+          c.loop-id.invariant w.if-is_lt.false)
     ]

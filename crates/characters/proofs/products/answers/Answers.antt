@@ -22,7 +22,8 @@ returns-in-Err-clause-refusal c =
       | inr t ↦
           inr (
             t.0,
-            term_too_large p (rows_over p c.args.g.now.rows) (rows_over p c.args.h.now.rows) asks i a c.loop-one.terms.items (answers_in p c.args.g.now.rows c.args.h.now.rows asks) lt
+            term_too_large p (rows_over p c.args.g.now.rows) (rows_over p c.args.h.now.rows) asks i a c.loop-one.terms.items (answers_in p c.args.g.now.rows c.args.h.now.rows
+                asks) lt
                 (get_or_default asks i blank a lt) c.loop-one.invariant.terms t.1,
           )
     ]

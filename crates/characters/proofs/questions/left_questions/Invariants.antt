@@ -8,5 +8,6 @@ abbrev pub invariant-loop-term : goal.invariant-loop-term
 invariant-loop-term l =
     record {
       known : AreKnown l.tables.pool l.asked.items;
-      questions : map (asked_in l.tables.pool) l.asked.items ++ map left_question (terms_in (grove_of l.tables) (drop l.term-index l.terms)) ≡ map left_question (terms_in (grove_of l.tables) l.terms);
+      questions : map (asked_in l.tables.pool) l.asked.items ++ map left_question (terms_in (grove_of l.tables) (drop l.term-index l.terms)) ≡ map left_question (terms_in
+          (grove_of l.tables) l.terms);
     }

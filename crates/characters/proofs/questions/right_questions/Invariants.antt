@@ -7,5 +7,6 @@ abbrev pub invariant-loop-term : goal.invariant-loop-term
 invariant-loop-term l =
     record {
       known : AreKnown l.pool l.asked.items;
-      questions : map (asked_in l.pool) l.asked.items ++ map right_question (right_terms_in l.pool (drop l.term-index l.terms)) ≡ map right_question (right_terms_in l.pool l.terms);
+      questions : map (asked_in l.pool) l.asked.items ++ map right_question (right_terms_in l.pool (drop l.term-index l.terms)) ≡ map right_question (right_terms_in l.pool
+          l.terms);
     }

@@ -9,4 +9,5 @@ use Rattle.characters.proofs.summing.sort_terms.Goals as goal
 pub returns-clause-sorted : goal.returns-clause-sorted
 returns-clause-sorted c =
     let p = c.args.pool.now in
-    c.sort_unstable_by.ensures.sorted (λ s t. is_lt (key_order p s t)) (ranks_by (id_order_total p.trees) (λ (t : TreeId × ℤ). t.0.0)) (always_returns_same _ _ _ (λ a r f k. search rules))
+    c.sort_unstable_by.ensures.sorted (λ s t. is_lt (key_order p s t)) (ranks_by (id_order_total p.trees) (λ (t : TreeId × ℤ). t.0.0)) (always_returns_same _ _ _ (λ a r f k.
+        search rules))

@@ -24,7 +24,8 @@ returns-clause-sum c =
     let summed = c.in_ok-sums.ensures ∙ ap (λ (xs : List (TreeId × ℤ)). without_zeros (joined eq-value.it xs)) c.as_slice.ensures.value in
     if_ok_map _ _ c.lines_of.result
     (λ v e.
-    lines_are_sum p eq-value.it (λ i j a b. same_numbers p c.laws.ensures i.0 j.0 a b) ts us vs v.items c.requires.known c.sort_terms.ensures.same c.sort_terms.ensures.sorted summed
+    lines_are_sum p eq-value.it (λ i j a b. same_numbers p c.laws.ensures i.0 j.0 a b) ts us vs v.items c.requires.known c.sort_terms.ensures.same c.sort_terms.ensures.sorted
+        summed
     (e ∙ ap (map line_of) c.as_slice-2.ensures.value))
     c.lines_of.ensures
 
@@ -37,6 +38,7 @@ returns-clause-known c =
     let summed = c.in_ok-sums.ensures ∙ ap (λ (xs : List (TreeId × ℤ)). without_zeros (joined eq-value.it xs)) c.as_slice.ensures.value in
     if_ok_map _ _ c.lines_of.result
     (λ v e.
-    lines_are_known p eq-value.it (λ i j a b. same_numbers p c.laws.ensures i.0 j.0 a b) ts us vs v.items c.requires.known c.sort_terms.ensures.same c.sort_terms.ensures.sorted summed
+    lines_are_known p eq-value.it (λ i j a b. same_numbers p c.laws.ensures i.0 j.0 a b) ts us vs v.items c.requires.known c.sort_terms.ensures.same c.sort_terms.ensures.sorted
+        summed
     (e ∙ ap (map line_of) c.as_slice-2.ensures.value))
     c.lines_of.ensures
