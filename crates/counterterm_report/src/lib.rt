@@ -14,4 +14,5 @@ mod values;
 pub use error::ReportError;
 pub use report::print_report;
 pub use stored::{print_value, read_value, value_laws};
+pub use text::type_name;
 pub use values::{DiffValue, ReportValues, TreeValues};

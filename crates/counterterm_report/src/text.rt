@@ -33,8 +33,8 @@ pub(crate) fn put_named_line(
     out.extend_from_slice(b"\n")
 }
 
-/// The name of a type.
-pub(crate) fn type_name(types: &Types, kind: TypeId) -> &[u8]
+/// The name of a type; nothing for a number that is that of no type. Takes no memory.
+pub fn type_name(types: &Types, kind: TypeId) -> &[u8]
     ensures { result.now ≡ name_of types.now kind.0 }
 {
     match types.list.get(kind.0 as usize) {

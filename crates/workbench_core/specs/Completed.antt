@@ -1,7 +1,7 @@
 -- What a command gives for the completed rule of a file.
 --   CompletedRule == an equation, the rule with which it begins, the completed rule, and the listed trees of that
 --   completed_rule c == that of a file that is completed, whose trees are those of its pool
---   HasFacts c == the trees of c are trees of its pool, which has the types of the equation; none of the completed rule is too large, and the rule is closed under cutting
+--   HasFacts c == the trees of c are trees of its pool, which has the types of the equation; of the completed rule there are not too many, and none is too large; and the rule is closed under cutting
 --   IsStageRefused eq base r == r names the first stage of the completion of base that is too large, and what is too large there
 --   IsUnlessZero ty zero answers r == r is one of the answers where there is no tree `zero`; else it names that tree
 --   IsCompleted answers eq base r == the completion of base is reached with no stage too large; r is one of the answers for it and all its listed trees, or names its
@@ -19,7 +19,7 @@ use Rattle.plain_trees.specs.Plain.{Plain}
 use Rattle.plain_trees.specs.Text.{tree_text}
 use Rattle.normal_rule.specs.declared.rule.Rule.{Rule}
 use Rattle.conforming_trees.specs.Conforming.{IsRule}
-use Rattle.conforming_trees.specs.Listed.{IsListed, IsWholeList, IsFirstZero, HasTooLargeTree}
+use Rattle.conforming_trees.specs.Listed.{IsListed, IsWholeList, IsFirstZero, HasTooManyTrees, HasTooLargeTree}
 use Rattle.rule_stages.specs.Closure.{IsClosedUnderCutting}
 use Rattle.rule_stages.specs.Stages.{IsCompletion}
 use Rattle.rule_steps.specs.Steps.{trees_of}
@@ -48,6 +48,7 @@ pub record HasFacts (c : Completed) : Type 0 where
   pub types : c.pool.types ≡ c.eq.types
   pub known : All (λ id. id.0 < length c.pool.trees) c.trees
   pub whole : IsWholeList c.eq c.rule (trees_of c.pool c.trees)
+  pub few : HasTooManyTrees c.eq c.rule → ⊥
   pub fit : HasTooLargeTree c.eq c.rule → ⊥
   pub closed : (t : Plain) → IsListed c.eq c.rule t → IsClosedUnderCutting c.eq c.rule t
 

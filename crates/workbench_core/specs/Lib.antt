@@ -3,6 +3,7 @@ pub mod Base
 pub mod Check
 pub mod CheckText
 pub mod Completed
+pub mod Compute
 pub mod Files
 pub mod Fixed
 pub mod Refusals

@@ -4,6 +4,7 @@
 mod answer;
 mod base;
 mod completed;
+mod compute;
 mod fixed;
 mod lines;
 mod refusal;
@@ -15,6 +16,7 @@ mod verdict;
 
 pub use answer::{Output, answer_for};
 pub use completed::{Completed, complete_file};
+pub use compute::{Computed, Reported, compute_of, report_of};
 pub use fixed::FixedRefusal;
 pub use lines::print_refusal;
 pub use refusal::{Refusal, TreeReason};

@@ -1,0 +1,9 @@
+pub mod Extended
+pub mod Firsts
+pub mod HeldMore
+pub mod Lists
+pub mod OneTree
+pub mod Printing
+pub mod Ranges
+pub mod SeveralTrees
+pub mod UnknownsWalk

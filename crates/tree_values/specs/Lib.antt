@@ -1,0 +1,3 @@
+pub mod Quantities
+pub mod Ranges
+pub mod Values
