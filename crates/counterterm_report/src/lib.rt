@@ -14,5 +14,6 @@ mod values;
 pub use error::ReportError;
 pub use report::print_report;
 pub use stored::{print_value, read_value, value_laws};
-pub use text::type_name;
+pub use text::{degree_text, poly_text, put_line, put_named_line, type_name};
+pub use trees::put_differentials;
 pub use values::{DiffValue, ReportValues, TreeValues};

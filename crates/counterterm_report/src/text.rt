@@ -10,7 +10,8 @@ use equations::Equation;
 use std::alloc::{AllocError, Global};
 use symbol_polys::{Poly, print_poly};
 
-pub(crate) fn put_line(out: &mut Vec<u8>, label: &[u8], text: &[u8]) -> Result<(), AllocError>
+/// Puts a label and a text behind what is written, as a line.
+pub fn put_line(out: &mut Vec<u8>, label: &[u8], text: &[u8]) -> Result<(), AllocError>
     ensures { OnOk result (out.new.items ≡ out.old.items ++ line label.now text.now) }
 {
     out.extend_from_slice(label)?;
@@ -18,7 +19,8 @@ pub(crate) fn put_line(out: &mut Vec<u8>, label: &[u8], text: &[u8]) -> Result<(
     out.extend_from_slice(b"\n")
 }
 
-pub(crate) fn put_named_line(
+/// The same with a name before the text.
+pub fn put_named_line(
     out: &mut Vec<u8>,
     label: &[u8],
     name: &[u8],
@@ -33,7 +35,7 @@ pub(crate) fn put_named_line(
     out.extend_from_slice(b"\n")
 }
 
-/// The name of a type; nothing for a number that is that of no type. Takes no memory.
+/// The name of a type. Takes no memory.
 pub fn type_name(types: &Types, kind: TypeId) -> &[u8]
     ensures { result.now ≡ name_of types.now kind.0 }
 {
@@ -43,7 +45,8 @@ pub fn type_name(types: &Types, kind: TypeId) -> &[u8]
     }
 }
 
-pub(crate) fn degree_text(types: &Types, degree: Degree) -> SmallText
+/// The text of a degree. Takes no memory.
+pub fn degree_text(types: &Types, degree: Degree) -> SmallText
     requires { AreTypes types.now }
     ensures { IsDegreeText degree (unsigned_abs types.now.units.den) result }
 {
@@ -52,7 +55,8 @@ pub(crate) fn degree_text(types: &Types, degree: Degree) -> SmallText
     text
 }
 
-pub(crate) fn poly_text(alloc: Global, eq: &Equation, p: &Poly) -> Result<Vec<u8>, AllocError>
+/// The text of a polynomial over the symbols of an equation. Refused only for want of memory.
+pub fn poly_text(alloc: Global, eq: &Equation, p: &Poly) -> Result<Vec<u8>, AllocError>
     requires types { AreTypes eq.now.types }
     requires printed { IsPrinted eq.now p.now }
     ensures { IfOk result (λ v. v.items ≡ printed eq.now p.now) }

@@ -68,7 +68,9 @@ fn put_differential(
     )
 }
 
-fn put_differentials(
+/// Puts the lines of elementary differentials behind what is written, one for each unknown. Refused
+/// only for want of memory.
+pub fn put_differentials(
     out: &mut Vec<u8>,
     alloc: Global,
     eq: &Equation,

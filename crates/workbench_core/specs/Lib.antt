@@ -4,8 +4,10 @@ pub mod Check
 pub mod CheckText
 pub mod Completed
 pub mod Compute
+pub mod Detail
 pub mod Files
 pub mod Fixed
+pub mod GivenTree
 pub mod Refusals
 pub mod Requests
 pub mod TreeList

@@ -3,6 +3,7 @@
 --   of_file f == the refusal of a file that writes down no equation
 --   of_stage j what == the refusal where a stage of the completion, from 0, is too large
 --   of_completion f == the refusal of a rule that has no completion
+--   of_tree_error e == the refusal of a text that is not that of a tree
 --   fixed_of r == the refusal with this fixed line, where the line is one
 --   status_of r, name_of r == the status and the name of a refusal
 --   reason_of_tree r == the words for why a tree text is refused
@@ -17,6 +18,8 @@ use Rattle.equation_document.specs.declared.fault.Which.{Which}
 use Rattle.equation_document.specs.declared.fault.Which.TheVariants as limits
 use Rattle.equation_file.specs.declared.refusal.FileRefusal.{FileRefusal}
 use Rattle.equation_file.specs.declared.refusal.FileRefusal.TheVariants as files
+use Rattle.plain_trees.specs.declared.error.TreeError.{TreeError}
+use Rattle.plain_trees.specs.declared.error.TreeError.TheVariants as trees
 use Rattle.rule_completion.specs.declared.refusal.StageFault.{StageFault}
 use Rattle.rule_completion.specs.declared.refusal.StageFault.TheVariants as stages
 use Rattle.rule_completion.specs.declared.refusal.StageRefusal.{StageRefusal}
@@ -73,6 +76,14 @@ of_stage j stages.RuleTooLarge = RuleTooLarge j
 abbrev pub of_completion : StageRefusal → Refusal
 of_completion (refused.Stage j what) = of_stage j what
 of_completion refused.Memory = Memory
+
+abbrev pub of_tree_error : TreeError → Refusal
+of_tree_error (trees.TreeText place) = TreeRefused (TreeText place)
+of_tree_error (trees.UnknownType place) = TreeRefused (UnknownType place)
+of_tree_error (trees.TooManyEdges count) = TreeRefused (TooManyEdges count)
+of_tree_error (trees.TooManyDecorations total) = TreeRefused (TooManyDecorations total)
+of_tree_error trees.NotCanonical = TreeRefused NotCanonical
+of_tree_error trees.Memory = Memory
 
 abbrev pub fixed_of : Refusal → Option FixedRefusal
 fixed_of FileFault = Some fixed.FileFault

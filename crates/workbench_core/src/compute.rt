@@ -137,8 +137,8 @@ fn with_values(eq: Equation, base: Rule, completed: Rule, trees: Items<TreeValue
     }
 }
 
-// Tables that take the pool over.
-fn tables_over<'a>(
+/// Tables that take the pool over. Refused only for want of memory.
+pub(crate) fn tables_over<'a>(
     alloc: Global,
     arena: &'a Bump,
     types: &Types,

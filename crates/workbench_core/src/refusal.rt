@@ -4,6 +4,7 @@ ghost use Rattle.workbench_core.specs.declared.refusal.Refusal.TheVariants.{Memo
 
 use crate::fixed::FixedRefusal;
 use equation_file::{FileRefusal, Reason, Which};
+use plain_trees::TreeError;
 use rule_completion::{StageFault, StageRefusal};
 use sqlite_items::Items;
 use std::alloc::{AllocError, AllocFailed};
@@ -156,7 +157,7 @@ impl Refusal {
     ghost use Rattle.std.specs.Prelude.{◌≢◌, IfSome};
     ghost use Rattle.workbench_core.specs.declared.refusal.Refusal.TheVariants.{FileFault};
     ghost use Rattle.workbench_core.specs.Fixed.{fixed_status, fixed_line};
-    ghost use Rattle.workbench_core.specs.Refusals.{of_file, of_stage, of_completion, fixed_of, status_of, name_of, line_of};
+    ghost use Rattle.workbench_core.specs.Refusals.{of_file, of_stage, of_completion, of_tree_error, fixed_of, status_of, name_of, line_of};
 
     /// The refusal of a file that writes down no equation.
     pub fn of_file(refusal: FileRefusal) -> Refusal
@@ -182,6 +183,22 @@ impl Refusal {
             StageFault::TreeTooLarge => Refusal::TreeTooLarge { stage },
             StageFault::RuleTooLarge => Refusal::RuleTooLarge { stage },
         }
+    }
+
+    /// The refusal of a text that is not that of a tree.
+    pub fn of_tree_error(error: TreeError) -> Refusal
+        ensures refusal { result ≡ of_tree_error error }
+        ensures no_fault { result ≢ FileFault }
+    {
+        let reason = match error {
+            TreeError::TreeText { place } => TreeReason::TreeText { place },
+            TreeError::UnknownType { place } => TreeReason::UnknownType { place },
+            TreeError::TooManyEdges { count } => TreeReason::TooManyEdges { count },
+            TreeError::TooManyDecorations { total } => TreeReason::TooManyDecorations { total },
+            TreeError::NotCanonical => TreeReason::NotCanonical,
+            TreeError::Memory => return Refusal::Memory,
+        };
+        Refusal::TreeRefused { reason }
     }
 
     /// The refusal where a rule has no completion.

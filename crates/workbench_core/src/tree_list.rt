@@ -11,7 +11,6 @@ ghost use Rattle.workbench_core.specs.TreeList.{count_text, row_text, IsRow, Are
 use crate::refusal::Refusal;
 use degree_numbers::{SmallText, print_degree};
 use itoa::Buffer;
-use plain_trees::print_tree;
 use std::alloc::{AllocError, Global};
 use tree_pool::{Pool, TreeId};
 
@@ -81,18 +80,12 @@ fn put_line(number: usize, degree: &[u8], tree: &[u8], text: &mut Vec<u8>) -> Re
 }
 
 /// The text of a tree of a pool. Refused only for want of memory.
-#[tactic(auto, using(crate::proofs::PoolTrees::tree_facts))]
 pub fn tree_text(alloc: Global, pool: &Pool<'_>, id: TreeId) -> Result<Vec<u8>, Refusal>
     requires { id.0 < length pool.now.trees }
     ensures text { IfOk result (λ v. v.items ≡ tree_text pool.now.types (tree_at pool.now id.0)) }
     ensures memory { IfErr result (λ e. e ≡ Refusal.Memory) }
 {
-    pool.laws();
-    let tree = pool.plain(alloc, id)?;
-    match print_tree(alloc, pool.types(), &tree) {
-        Ok(text) => Ok(text),
-        Err(_) => Err(Refusal::Memory),
-    }
+    Ok(tree_details::tree_text(alloc, pool, id)?)
 }
 
 // The text of the degree of a tree.

@@ -1,0 +1,13 @@
+//! The detail of a tree: all that the workbench computes of it, as a text.
+#![tactic(auto)]
+
+mod coproducts;
+mod detail;
+mod pairings;
+mod polynomials;
+mod text;
+mod values;
+
+pub use detail::{Detail, Polynomials, print_detail};
+pub use text::tree_text;
+pub use values::detail_values;

@@ -1,6 +1,0 @@
-use Rattle.plain_trees.specs.View.{plain}
-use Rattle.workbench_core.proofs.PoolTrees.{tree_small}
-use Rattle.workbench_core.proofs.tree_list.tree_text.Goals as goal
-
-pub print_tree-requires-clause-small : goal.print_tree-requires-clause-small
-print_tree-requires-clause-small c = tree_small c.args.pool.now c.args.id.0 (plain c.in_ok-tree.tree) c.laws.ensures c.requires c.in_ok-tree.ensures
