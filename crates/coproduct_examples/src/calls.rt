@@ -1,7 +1,7 @@
 // Several calls on the same tables.
 ghost use Rattle.degree_numbers.specs.Types.{AreTypes};
 
-use crate::asked::{asked, forest_of_two, interned, tables_with};
+use crate::checked::{asked, forest_of_two, interned, tables_with};
 use bumpalo::Bump;
 use degree_numbers::Types;
 use extraction_coproduct::{Tables, Work};

@@ -1,6 +1,6 @@
 // Terms in an arena, read when the tables that gave them are gone. None can be kept past the arena:
 // `.ci/loans` tries to.
-use crate::asked::{asked, tables_with};
+use crate::checked::{asked, tables_with};
 use bumpalo::Bump;
 use extraction_coproduct::{ExtractTerm, Tables, Work};
 use known_types::kpz_types;

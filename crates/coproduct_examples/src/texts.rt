@@ -2,7 +2,7 @@
 ghost use Rattle.std.specs.Prelude.{◌<◌, length};
 ghost use Rattle.degree_numbers.specs.Types.{AreTypes};
 
-use crate::asked::{asked, tables_with};
+use crate::checked::{asked, tables_with};
 use bumpalo::Bump;
 use degree_numbers::Types;
 use equation_file::read_equation;

@@ -1,7 +1,7 @@
 // Several calls on the same recentrer.
 ghost use Rattle.degree_numbers.specs.Types.{AreTypes};
 
-use crate::asked::{asked, interned};
+use crate::checked::{asked, interned};
 use bumpalo::Bump;
 use degree_numbers::Types;
 use recentring_coproduct::Recentrer;

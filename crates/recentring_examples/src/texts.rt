@@ -2,7 +2,7 @@
 ghost use Rattle.std.specs.Prelude.{◌<◌, length};
 ghost use Rattle.degree_numbers.specs.Types.{AreTypes};
 
-use crate::asked::{asked, interned};
+use crate::checked::{asked, interned};
 use bumpalo::Bump;
 use degree_numbers::Types;
 use equation_file::read_equation;
@@ -46,6 +46,22 @@ fn terms_text(alloc: Global, pool: &Pool<'_>, terms: &[RightTerm]) -> Option<Vec
     Some(out)
 }
 
+/// A pool with the tree of this text, and its terms or the refusal.
+fn terms_of<'a>(
+    alloc: Global,
+    arena: &'a Bump,
+    types: &Types,
+    text: &[u8],
+) -> Option<(Pool<'a>, Result<&'a [RightTerm], CoproductError>)>
+    requires { AreTypes types.now }
+{
+    let mut pool = Pool::new(alloc, arena, types).ok()?;
+    let id = interned(alloc, types, &mut pool, text)?;
+    let mut recentrer = Recentrer::new(alloc, arena).ok()?;
+    let terms = asked(alloc, &mut recentrer, &mut pool, id)?;
+    Some((pool, terms))
+}
+
 /// The terms of the recentring coproduct of the tree with this text, one a line; or the refusal.
 pub fn recentring_text(
     alloc: Global,
@@ -55,10 +71,8 @@ pub fn recentring_text(
     requires { AreTypes types.now }
 {
     let arena = Bump::new(alloc);
-    let mut pool = Pool::new(alloc, &arena, types).ok()?;
-    let id = interned(alloc, types, &mut pool, text)?;
-    let mut recentrer = Recentrer::new(alloc, &arena).ok()?;
-    match asked(alloc, &mut recentrer, &mut pool, id)? {
+    let (pool, terms) = terms_of(alloc, &arena, types, text)?;
+    match terms {
         Ok(terms) => Some(Ok(terms_text(alloc, &pool, terms)?)),
         Err(refusal) => Some(Err(refusal)),
     }
@@ -74,6 +88,43 @@ pub fn recentring_of_file(
         return None;
     };
     recentring_text(alloc, &eq.types, text)
+}
+
+/// How many terms a recentring coproduct has, and the greatest of their coefficients.
+#[derive(Clone, Copy, Debug, PartialEq, Eq)]
+pub struct TermCount {
+    pub terms: usize,
+    pub greatest: i128,
+}
+
+/// The number of these terms, and the greatest of their coefficients.
+fn counted(terms: &[RightTerm]) -> TermCount {
+    let mut greatest = 0;
+    for term in terms {
+        greatest = term.coefficient.max(greatest);
+    }
+    TermCount {
+        terms: terms.len(),
+        greatest,
+    }
+}
+
+/// The number of terms of the tree with this text on the types of the equation that a file writes
+/// down, and the greatest of their coefficients; or the refusal.
+pub fn term_count_of_file(
+    alloc: Global,
+    file: &[u8],
+    text: &[u8],
+) -> Option<Result<TermCount, CoproductError>> {
+    let Ok(eq) = read_equation(alloc, file) else {
+        return None;
+    };
+    let arena = Bump::new(alloc);
+    let (_, terms) = terms_of(alloc, &arena, &eq.types, text)?;
+    match terms {
+        Ok(terms) => Some(Ok(counted(terms))),
+        Err(refusal) => Some(Err(refusal)),
+    }
 }
 
 #[cfg(test)]
@@ -131,5 +182,29 @@ mod tests {
             .expect(&rt, "read")
             .expect(&rt, "terms");
         assert!(rt; out.as_slice() == terms.as_slice());
+    }
+
+    // One direction of scaling 1, and kernels of degrees 16 and 7.
+    const STRONG_KERNELS: &[u8] =
+        b"version = 1\nscaling = [1]\n[[noise]]\nname = \"xi\"\ndegree = \"-1/2\"\n\
+          [[unknown]]\nname = \"u\"\ndegree = \"16\"\nregularity = \"1\"\nright = \"xi\"\n\
+          [[unknown]]\nname = \"v\"\ndegree = \"7\"\nregularity = \"1\"\nright = \"xi\"\n";
+
+    // 4 * 67! / (16! * 17!^3): three edges are raised by 17, one by 16.
+    const GREATEST: i128 = 154947239832579302317200400901307816000;
+
+    #[test]
+    fn a_coefficient_of_multinomials_is_in_range_or_not(rt: HostRuntime) {
+        let tree = b"[u[X(2)]*u[X(2)]*u[X(2)]*u[X(2)]]";
+        let within = term_count_of_file(rt.alloc(), STRONG_KERNELS, tree).expect(&rt, "read");
+        let count = TermCount {
+            terms: 10626,
+            greatest: GREATEST,
+        };
+        assert!(rt; within == Ok(count));
+        // 8 * 47! / (5! * 6!^7) is just past 2^127 - 1
+        let tree = b"[v[]*v[]*v[]*v[]*v[]*v[]*v[]*v[]]";
+        let beyond = term_count_of_file(rt.alloc(), STRONG_KERNELS, tree).expect(&rt, "read");
+        assert!(rt; matches!(beyond, Err(CoproductError::CoefficientTooLarge)));
     }
 }

@@ -1,7 +1,7 @@
 use Rattle.std.proofs.Common.{arith}
 use Rattle.std.proofs.lemmas.Bool.Decides.{nat_tests}
 use Rattle.tree_pool.specs.Content.{tree_at}
-use Rattle.coproduct_examples.proofs.asked.is_fit.Goals as goal
+use Rattle.coproduct_examples.proofs.checked.is_fit.Goals as goal
 
 pub returns-then-edge_count-le24 : goal.returns-then-edge_count-le24
 returns-then-edge_count-le24 c = λ h.
