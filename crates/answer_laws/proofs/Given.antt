@@ -1,22 +1,18 @@
 -- A request has at most one answer for the bytes of its files.
-use Rattle.std.proofs.Common.{◌≡◌, ℕ, List, [], ◌∷◌, Result, sym, ap, ◌∙◌, subst}
+use Rattle.std.proofs.Common.{◌≡◌, ℕ, List, Result, sym, ap, ◌∙◌}
 use Rattle.workbench_core.specs.declared.refusal.Refusal.{Refusal}
-use Rattle.workbench_core.specs.declared.request.Request.{Request}
 use Rattle.workbench_core.specs.declared.request.Request.TheVariants.{Check, Trees}
-use Rattle.workbench_core.specs.Answers.{Answer, of_result, OfFile, IsGiven}
+use Rattle.workbench_core.specs.Answers.{Answer, of_result, IsPrinted, file_at, IsGiven}
 use Rattle.workbench_core.specs.Check.{IsChecked}
 use Rattle.workbench_core.specs.Trees.{IsTreesOf}
 use Rattle.answer_laws.proofs.Checks.{check_one}
 use Rattle.answer_laws.proofs.Completions.{CompletionLaws, trees_one}
 
-of_file_one : (answers : List ℕ → Result (List ℕ) Refusal → Type 0) → ((file : List ℕ) (r s : Result (List ℕ) Refusal) → answers file r → answers file s → r ≡ s)
-    → (files : List (List ℕ)) (a b : Answer) → OfFile answers files a → OfFile answers files b → a ≡ b
-of_file_one answers one files a b h k =
-    let both : h.file ∷ [] ≡ k.file ∷ [] = sym h.one ∙ k.one in
-    let file : h.file ≡ k.file = cc in
-    let result = one k.file h.result k.result (subst (λ f. answers f h.result) file h.answers_it) k.answers_it in
-    h.printed ∙ ap of_result result ∙ sym k.printed
+printed_one : (answers : Result (List ℕ) Refusal → Type 0) → ((r s : Result (List ℕ) Refusal) → answers r → answers s → r ≡ s) → (a b : Answer) → IsPrinted of_result answers a → IsPrinted of_result answers b → a ≡ b
+printed_one answers one a b h k = h.printed ∙ ap of_result (one h.result k.result h.answers_it k.answers_it) ∙ sym k.printed
 
-pub given_one : CompletionLaws → (r : Request) (files : List (List ℕ)) (a b : Answer) → IsGiven r files a → IsGiven r files b → a ≡ b
-given_one laws (Check name) files a b h k = of_file_one IsChecked check_one files a b h k
-given_one laws (Trees name) files a b h k = of_file_one IsTreesOf (trees_one laws) files a b h k
+pub check_given_one : (file : List ℕ) (files : List (List ℕ)) (a b : Answer) → IsGiven (Check file) files a → IsGiven (Check file) files b → a ≡ b
+check_given_one file files a b h k = printed_one (IsChecked (file_at files 0)) (check_one (file_at files 0)) a b h k
+
+pub trees_given_one : CompletionLaws → (name : List ℕ) (files : List (List ℕ)) (a b : Answer) → IsGiven (Trees name) files a → IsGiven (Trees name) files b → a ≡ b
+trees_given_one laws name files a b h k = printed_one (IsTreesOf (file_at files 0)) (trees_one laws (file_at files 0)) a b h k

@@ -1,6 +1,7 @@
 //! The program `bphz`: it makes the real objects, calls the workbench, and ends with its status.
 #![tactic(auto)]
 
+use extraction_coproduct::Work;
 use std::alloc::Global;
 use std::env::Env;
 use std::io::ErrorKind;
@@ -34,6 +35,14 @@ fn main(rt: HostRuntime) -> ExitCode {
         }
     };
     let mut files = HostFiles::new(&rt);
-    let status = workbench(rt.alloc(), &words, &mut files, &mut out, &mut err);
+    let mut work = Work { tables: 0 };
+    let status = workbench(
+        rt.alloc(),
+        &words,
+        &mut files,
+        &mut out,
+        &mut err,
+        &mut work,
+    );
     ExitCode::from(status.code)
 }

@@ -12,6 +12,7 @@ mod trees;
 mod values;
 
 pub use error::ReportError;
+pub use renormalised::is_zero;
 pub use report::print_report;
 pub use stored::{print_value, read_value, value_laws};
 pub use text::{degree_text, poly_text, put_line, put_named_line, type_name};

@@ -15,7 +15,8 @@ use itoa::Buffer;
 use std::alloc::{AllocError, Global};
 use symbol_polys::Poly;
 
-fn is_zero(p: &Poly) -> bool
+/// Whether a polynomial is 0.
+pub fn is_zero(p: &Poly) -> bool
     ensures { result ≡ is_zero p.now }
 {
     match p.terms.as_slice() {

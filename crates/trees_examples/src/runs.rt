@@ -2,6 +2,7 @@
 ghost use Rattle.std.specs.Prelude.{IfOk};
 ghost use Rattle.wb_outside.specs.Texts.{AreDistinct};
 
+use extraction_coproduct::Work;
 use std::alloc::{AllocError, Global};
 use wb_outside::{MemoryFiles, MemorySink, NamedText, OutsideError};
 use workbench_cli::workbench;
@@ -38,7 +39,8 @@ pub fn run_on(alloc: Global, command: &str, file: &[u8]) -> Result<Run, OutsideE
     let mut files = MemoryFiles::new(alloc, texts, Vec::new(alloc));
     let mut out = MemorySink::new(alloc, ROOM, Vec::new(alloc))?;
     let mut err = MemorySink::new(alloc, ROOM, Vec::new(alloc))?;
-    let status = workbench(alloc, &words, &mut files, &mut out, &mut err);
+    let mut work = Work { tables: 0 };
+    let status = workbench(alloc, &words, &mut files, &mut out, &mut err, &mut work);
     Ok(Run {
         code: status.code,
         out: out.bytes().to_vec(alloc)?,

@@ -2,3 +2,4 @@ mod DeliveryLemmas
 mod NumberLemmas
 mod ReadLemmas
 mod RunLemmas
+mod WordLemmas

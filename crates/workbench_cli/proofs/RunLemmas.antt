@@ -32,7 +32,7 @@ module _ (texts : List ℕ → Option (List ℕ)) where
   pub of_files : (r : Request) (names pieces : List (List ℕ)) (a : Answer) → names ≡ files_of r → AreRead texts names pieces → IsGiven r pieces a → IsOfFiles r texts a
   of_files r names pieces a same read given =
       let files = files_read names pieces read in
-      (files.0, subst (λ ns. AreTold texts ns files.0) same files.1, IsGiven-fronts r pieces files.0 a files.2 given)
+      (files.0, subst (λ ns. AreTold texts ns files.0) same files.1, IsGiven-fronts pieces files.0 a files.2 r given)
 
   pub answers_of_files : {T E : Type 0} (r : Request) (names pieces : List (List ℕ)) (result : Result T E) (view : T → Answer) → names ≡ files_of r → AreRead texts names pieces
       → IfOk result (λ x. IsGiven r pieces (view x)) → IfOk result (λ x. IsOfFiles r texts (view x))
@@ -81,6 +81,6 @@ module _ (texts : List ℕ → Option (List ℕ)) where
   pub given_to : (words told : List (List ℕ)) (r : Request) (a : Answer) (code : ℕ) (out err : Writing) → IsRequest words r → map texts (files_of r) ≡ map Some told → code ≢ 3 → code ≢ 17
       → IsAnswerTo words texts a → IsDelivered a code out err → IsGiven r told a
   given_to words told r a code out err is same file memory (inl h) delivered =
-      let one : h.0 ≡ r = same_request h.0 r (sym h.1.words_are ∙ is.words_are) in
+      let one : h.0 ≡ r = same_request words h.0 r h.1 is in
       given_for r told a code out err same file memory (subst (λ s. IsAnswer s texts a) one h.2) delivered
   given_to words told r a code out err is same file memory (inr none) delivered = absurd (none.0 r is)

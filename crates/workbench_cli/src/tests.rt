@@ -2,6 +2,7 @@ ghost use Rattle.std.specs.Prelude.{IfOk};
 ghost use Rattle.wb_outside.specs.Texts.{AreDistinct};
 
 use super::*;
+use extraction_coproduct::Work;
 use std::alloc::{AllocError, Global};
 use std::test::Fail;
 use wb_outside::{MemoryFiles, MemorySink, NamedText, OutsideError};
@@ -64,7 +65,8 @@ pub fn run_program(
     let mut files = MemoryFiles::new(alloc, texts, failing_reads.to_vec(alloc)?);
     let mut out = MemorySink::new(alloc, ROOM, failing_writes.to_vec(alloc)?)?;
     let mut err = MemorySink::new(alloc, ROOM, Vec::new(alloc))?;
-    let status = workbench(alloc, &words, &mut files, &mut out, &mut err);
+    let mut work = Work { tables: 0 };
+    let status = workbench(alloc, &words, &mut files, &mut out, &mut err, &mut work);
     Ok(Run {
         code: status.code,
         out: out.bytes().to_vec(alloc)?,
@@ -113,10 +115,20 @@ fn other_words_are_refused(rt: HostRuntime) -> Result<(), Fail> {
         "add file file",
         "show file",
         "names",
-        "compute file",
+        "compute",
+        "compute file --fast",
         "compute file --fresh",
-        "detail file [xi]",
-        "sample 4",
+        "detail file",
+        "detail file -t",
+        "act file [xi]",
+        "act file [xi] -t",
+        "act file [xi] t --recenter",
+        "act file [xi] --recentre t",
+        "multiply file [xi] t",
+        "multiply file [xi] t t t",
+        "sample",
+        "sample 01",
+        "sample 1000001",
         "serve 1 8080",
     ] {
         let run = run_program(rt.alloc(), line, PHI4_2D.as_bytes(), &[], &[])?;
@@ -149,7 +161,7 @@ fn numbers_are_digits_without_leading_zeros(rt: HostRuntime) -> Result<(), Fail>
 }
 
 #[test]
-fn trees_takes_the_name_of_a_project(rt: HostRuntime) -> Result<(), Fail> {
+fn commands_take_the_names_of_projects(rt: HostRuntime) -> Result<(), Fail> {
     for (line, code) in [
         ("trees", 2),
         ("trees pam pam", 2),
@@ -161,6 +173,15 @@ fn trees_takes_the_name_of_a_project(rt: HostRuntime) -> Result<(), Fail> {
         ("trees 2d_pam-", 3),
         ("trees a2345678901234567890123456789012", 3),
         ("trees a23456789012345678901234567890123", 2),
+        ("compute pam", 3),
+        ("compute Pam", 2),
+        ("detail pam [xi]", 3),
+        ("detail Pam [xi]", 2),
+        ("act pam [xi] t", 3),
+        ("act pam [xi] t --recentre", 3),
+        ("act Pam [xi] t --recentre", 2),
+        ("multiply pam [xi] t t", 3),
+        ("multiply Pam [xi] t t", 2),
     ] {
         let run = run_program(rt.alloc(), line, PHI4_2D.as_bytes(), &[], &[])?;
         assert_eq!(rt; (run.code, run.out.len()), (code, 0), "{line}");

@@ -1,5 +1,5 @@
 // The top call.
-ghost use Rattle.std.specs.Prelude.{◌≡◌, ◌≢◌, ◌↔◌, ◌⊎◌, ℕ, List, [], ◌∷◌, map, Some, Err, string_bytes, OnOk, IfOk, IfErr};
+ghost use Rattle.std.specs.Prelude.{◌≡◌, ◌≢◌, ◌↔◌, ◌⊎◌, ◌≤◌, ℕ, List, [], ◌∷◌, map, Some, Err, string_bytes, OnOk, IfOk, IfErr};
 ghost use Rattle.wb_outside.specs.Causes.{Rose};
 ghost use Rattle.wb_outside.specs.Told.{Lengthens, Grows, GrowsByFront, Gets, writing};
 ghost use Rattle.workbench_core.specs.declared.refusal.Refusal.{Refusal};
@@ -13,6 +13,7 @@ ghost use Rattle.workbench_cli.specs.Runs.{IsOfFiles, IsAnswer, IsAnswerTo, Asks
 
 use crate::reading::read_files;
 use crate::words::read_words;
+use extraction_coproduct::Work;
 use std::alloc::Global;
 use wb_outside::{Files, Sink};
 use workbench_core::{FixedRefusal, Output, Refusal, Request, answer_for, print_refusal};
@@ -23,13 +24,14 @@ pub struct Status {
     pub code: u8,
 }
 
-/// All that the program does, over the words after its name.
+/// All that the program does, over the words after its name. What `compute` finishes is counted.
 pub fn workbench<F: Files, O: Sink, E: Sink>(
     alloc: Global,
     words: &[String],
     files: &mut F,
     out: &mut O,
     err: &mut E,
+    work: &mut Work,
 ) -> Status
     // Status 2, and the causes of the faults.
     ensures words { result.code ≡ 2 ↔ IsNoRequest (map string_bytes words.now) }
@@ -45,11 +47,14 @@ pub fn workbench<F: Files, O: Sink, E: Sink>(
         → result.code ≢ 3 → result.code ≢ 17
         → (a : Answer) × IsGiven r texts a × IsDelivered a result.code (writing O.told O.faults out.old out.new) (writing E.told E.faults err.old err.new) }
 
+    // The count of the work never falls.
+    ensures count { work.old.tables ≤ work.new.tables }
+
     // The names that are asked for.
     ensures asked { Asks (map string_bytes words.now) result.code (F.asked files.old) (F.asked files.new) }
 {
     match read_words(words) {
-        Some(request) => run(alloc, &request, files, out, err),
+        Some(request) => run(alloc, &request, files, out, err, work),
         None => refuse(FixedRefusal::Words, err),
     }
 }
@@ -61,31 +66,39 @@ fn run<F: Files, O: Sink, E: Sink>(
     files: &mut F,
     out: &mut O,
     err: &mut E,
+    work: &mut Work,
 ) -> Status
     ensures never { result.code ≢ 2 }
     ensures file_fault { result.code ≡ 3 → Rose (F.faults files.old) (F.faults files.new) }
     ensures write_fault { result.code ≡ 15 → Rose (O.faults out.old) (O.faults out.new) ⊎ Rose (E.faults err.old) (E.faults err.new) }
     ensures answer { (a : Answer) × IsAnswer request.now (F.text files.old) a
         × IsDelivered a result.code (writing O.told O.faults out.old out.new) (writing E.told E.faults err.old err.new) }
+    ensures count { work.old.tables ≤ work.new.tables }
     ensures asked { AsksFor (files_of request.now) (result.code ≡ 3) (result.code ≡ 17) (F.asked files.old) (F.asked files.new) }
 {
-    match answer(alloc, request, files) {
+    match answer(alloc, request, files, work) {
         Ok(output) => write_output(&output, out, err),
         Err(refusal) => write_refusal(alloc, &refusal, err),
     }
 }
 
 // What a request gives.
-fn answer<F: Files>(alloc: Global, request: &Request<'_>, files: &mut F) -> Result<Output, Refusal>
+fn answer<F: Files>(
+    alloc: Global,
+    request: &Request<'_>,
+    files: &mut F,
+    work: &mut Work,
+) -> Result<Output, Refusal>
     ensures given { IfOk result (λ o. IsOfFiles request.now (F.text files.old) (of_output o)) }
     ensures refused { IfErr result (λ e. (e ≡ Refusal.FileFault) ⊎ (e ≡ Refusal.Memory) ⊎ IsOfFiles request.now (F.text files.old) (of_refusal e)) }
     ensures cause { IfErr result (λ e. e ≡ Refusal.FileFault → Rose (F.faults files.old) (F.faults files.new)) }
+    ensures count { work.old.tables ≤ work.new.tables }
     ensures asked { OnOk result (Lengthens (F.asked files.old) (F.asked files.new) (files_of request.now)) }
     ensures stopped { IfErr result (λ e. AsksFor (files_of request.now) (e ≡ Refusal.FileFault) (e ≡ Refusal.Memory) (F.asked files.old) (F.asked files.new)) }
 {
     let names = request.files(alloc)?;
     let texts = read_files(alloc, &names, files)?;
-    answer_for(alloc, request, &texts)
+    answer_for(alloc, request, &texts, work)
 }
 
 // What a command that is not refused writes.

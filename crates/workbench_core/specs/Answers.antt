@@ -4,17 +4,25 @@
 --   of_refusal r == the answer that is this refusal: its status, and its line on the error stream
 --   of_output o == the answer of a command that is not refused
 --   of_result r == the answer of a command that gives a text or a refusal
---   OfFile answers files a == there is one file, and a is what is printed for one of these answers to it
---   IsGiven r files a == a is what the request r gives, where the files that it reads have these bytes
-use Rattle.std.specs.Prelude.{◌≡◌, ℕ, List, [], ◌∷◌, Result, Ok, Err}
+--   note_text reused computed == the line `reused R computed C`
+--   of_computing r == the answer of `compute`: a report with this line on the error stream, or a
+--       refusal
+--   IsPrinted print answers a == a is what is printed for one of these answers
+--   file_at files i == the bytes of the file with the number i, from 0
+--   IsGiven r files a == a is what the request r gives, where the files that it reads have these
+--       bytes
+use Rattle.std.specs.Prelude.{◌≡◌, ℕ, List, [], ◌++◌, codes, decimal, slice_index_or, Result, Ok, Err}
 use Rattle.workbench_core.specs.declared.answer.Output.{Output}
 use Rattle.workbench_core.specs.declared.fixed.FixedRefusal.{FixedRefusal}
 use Rattle.workbench_core.specs.declared.refusal.Refusal.{Refusal}
 use Rattle.workbench_core.specs.declared.request.Request.{Request}
-use Rattle.workbench_core.specs.declared.request.Request.TheVariants.{Check, Trees}
+use Rattle.workbench_core.specs.declared.request.Request.TheVariants.{Check, Compute, Trees, Detail, Act, Multiply, Sample}
+use Rattle.workbench_core.specs.Characters.{IsActOf, IsMultiplyOf}
 use Rattle.workbench_core.specs.Check.{IsChecked}
+use Rattle.workbench_core.specs.Compute.{Computing, IsComputed}
 use Rattle.workbench_core.specs.Fixed.{fixed_status, fixed_line}
 use Rattle.workbench_core.specs.Refusals.{status_of, line_of}
+use Rattle.workbench_core.specs.Sample.{IsSampled}
 use Rattle.workbench_core.specs.Trees.{IsTreesOf}
 
 pub record Answer : Type 0 where
@@ -35,13 +43,32 @@ abbrev pub of_result : Result (List ℕ) Refusal → Answer
 of_result (Ok text) = record { status = 0; out = text; err = [] }
 of_result (Err r) = of_refusal r
 
-pub record OfFile (answers : List ℕ → Result (List ℕ) Refusal → Type 0) (files : List (List ℕ)) (a : Answer) : Type 0 where
-  pub file : List ℕ
-  pub one : files ≡ file ∷ []
-  pub result : Result (List ℕ) Refusal
-  pub answers_it : answers file result
-  pub printed : a ≡ of_result result
+abbrev pub note_text : ℕ → ℕ → List ℕ
+note_text reused computed =
+    codes "reused " ++ decimal reused ++ codes " computed " ++ decimal computed ++ codes "\n"
+
+abbrev pub of_computing : Result Computing Refusal → Answer
+of_computing (Ok g) =
+    record { status = 0; out = g.report; err = note_text g.reused g.computed }
+of_computing (Err r) = of_refusal r
+
+pub record IsPrinted {T : Type 0} (print : Result T Refusal → Answer)
+    (answers : Result T Refusal → Type 0) (a : Answer) : Type 0 where
+  pub result : Result T Refusal
+  pub answers_it : answers result
+  pub printed : a ≡ print result
+
+abbrev pub file_at : List (List ℕ) → ℕ → List ℕ
+file_at files i = slice_index_or files i []
 
 abbrev pub IsGiven : Request → List (List ℕ) → Answer → Type 0
-IsGiven (Check file) files a = OfFile IsChecked files a
-IsGiven (Trees name) files a = OfFile IsTreesOf files a
+IsGiven (Check file) files a = IsPrinted of_result (IsChecked (file_at files 0)) a
+IsGiven (Compute name) files a = IsPrinted of_computing (IsComputed (file_at files 0)) a
+IsGiven (Trees name) files a = IsPrinted of_result (IsTreesOf (file_at files 0)) a
+IsGiven (Detail name tree) files a = ⊥
+IsGiven (Act name tree table recentre) files a =
+    IsPrinted of_result (λ r. IsActOf (file_at files 0) tree (file_at files 1) recentre r) a
+IsGiven (Multiply name tree first second) files a =
+    IsPrinted of_result
+    (λ r. IsMultiplyOf (file_at files 0) tree (file_at files 1) (file_at files 2) r) a
+IsGiven (Sample number) files a = IsPrinted of_result (IsSampled number) a

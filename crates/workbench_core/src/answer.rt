@@ -1,15 +1,24 @@
 // What a request gives for the bytes of its files.
-ghost use Rattle.std.specs.Prelude.{◌≡◌, ◌≢◌, ◌⊎◌, map, length, Ok, Err, IfOk, IfErr};
-ghost use Rattle.workbench_core.specs.Answers.{of_output, of_refusal, of_result, IsGiven};
+ghost use Rattle.std.specs.Prelude.{◌≡◌, ◌≢◌, ◌⊎◌, ◌≤◌, map, length, is_ok, Ok, Err, IfOk, IfErr};
+ghost use Rattle.workbench_core.specs.declared.refusal.Refusal.{Refusal};
+ghost use Rattle.workbench_core.specs.Answers.{of_output, of_refusal, of_result, of_computing, note_text, IsPrinted, IsGiven};
+ghost use Rattle.workbench_core.specs.Compute.{IsComputed};
 ghost use Rattle.workbench_core.specs.Requests.{files_of};
 
+use crate::act::act_of;
+use crate::compute::compute_of;
+use crate::multiply::multiply_of;
 use crate::refusal::Refusal;
 use crate::request::Request;
+use crate::samples::sample;
 use crate::trees::trees_of;
 use crate::verdict::check;
-use std::alloc::Global;
+use extraction_coproduct::Work;
+use itoa::Buffer;
+use std::alloc::{AllocError, Global};
 
-/// What a command that is not refused writes: on the output, and on the error stream, where most commands write nothing.
+/// What a command that is not refused writes: on the output, and on the error stream, where most
+/// commands write nothing.
 #[derive(Debug, Drop)]
 pub struct Output {
     pub out: Vec<u8>,
@@ -28,20 +37,87 @@ impl Output {
     }
 }
 
-/// What a request gives, where the files that it reads have these bytes.
+/// What a request gives, where the files that it reads have these bytes. What `compute` finishes is
+/// counted.
 pub fn answer_for(
     alloc: Global,
     request: &Request<'_>,
     files: &[Vec<u8>],
+    work: &mut Work,
 ) -> Result<Output, Refusal>
     requires { length files.now ≡ length (files_of request.now) }
-    ensures given { IfOk result (λ o. IsGiven request.now (map (λ v. v.items) files.now) (of_output o)) }
-    ensures refused { IfErr result (λ e. (e ≡ Refusal.Memory) ⊎ IsGiven request.now (map (λ v. v.items) files.now) (of_refusal e)) }
+    ensures given { IfOk result (λ o. IsGiven request.now (map (λ v. v.items) files.now)
+        (of_output o)) }
+    ensures refused { IfErr result (λ e. (e ≡ Refusal.Memory)
+        ⊎ IsGiven request.now (map (λ v. v.items) files.now) (of_refusal e)) }
     ensures no_fault { result ≢ Err Refusal.FileFault }
+    ensures count { work.old.tables ≤ work.new.tables }
 {
-    let text = match request {
-        Request::Check { .. } => check(alloc, &files[0])?,
-        Request::Trees { .. } => trees_of(alloc, &files[0])?,
-    };
-    Ok(Output::of_text(alloc, text))
+    match request {
+        Request::Check { .. } => output_of(alloc, check(alloc, &files[0])),
+        Request::Compute { .. } => report_output(alloc, &files[0], work),
+        Request::Trees { .. } => output_of(alloc, trees_of(alloc, &files[0])),
+        Request::Detail { .. } => Err(Refusal::Memory),
+        Request::Act { tree, recentre, .. } => output_of(
+            alloc,
+            act_of(
+                alloc,
+                &files[0],
+                tree.as_str().as_bytes(),
+                &files[1],
+                *recentre,
+            ),
+        ),
+        Request::Multiply { tree, .. } => output_of(
+            alloc,
+            multiply_of(
+                alloc,
+                &files[0],
+                tree.as_str().as_bytes(),
+                &files[1],
+                &files[2],
+            ),
+        ),
+        Request::Sample { number } => output_of(alloc, sample(alloc, *number)),
+    }
+}
+
+// What a command that gives a text writes.
+fn output_of(alloc: Global, text: Result<Vec<u8>, Refusal>) -> Result<Output, Refusal>
+    ensures text { IfOk result (λ o. IfOk text (λ v. of_output o ≡ of_result (Ok v.items))) }
+    ensures given { is_ok result ≡ is_ok text }
+    ensures refused { IfErr result (λ e. text ≡ Err e) }
+{
+    match text {
+        Ok(text) => Ok(Output::of_text(alloc, text)),
+        Err(refusal) => Err(refusal),
+    }
+}
+
+// What `compute` writes.
+fn report_output(alloc: Global, file: &[u8], work: &mut Work) -> Result<Output, Refusal>
+    ensures given { IfOk result (λ o. IsPrinted of_computing (IsComputed file.now) (of_output o)) }
+    ensures refused { IfErr result (λ e. (e ≡ Refusal.Memory)
+        ⊎ IsPrinted of_computing (IsComputed file.now) (of_refusal e)) }
+    ensures no_fault { result ≢ Err Refusal.FileFault }
+    ensures count { work.old.tables ≤ work.new.tables }
+{
+    let computed = compute_of(alloc, file, work)?;
+    let note = note(alloc, computed.reused, computed.computed)?;
+    Ok(Output {
+        out: computed.report,
+        err: note,
+    })
+}
+
+// How many constants were held already, and how many were computed.
+fn note(alloc: Global, reused: u32, computed: u32) -> Result<Vec<u8>, AllocError>
+    ensures { IfOk result (λ v. v.items ≡ note_text reused computed) }
+{
+    let mut text = Vec::from_slice(alloc, b"reused ")?;
+    text.extend_from_slice(Buffer::new().format(reused).as_bytes())?;
+    text.extend_from_slice(b" computed ")?;
+    text.extend_from_slice(Buffer::new().format(computed).as_bytes())?;
+    text.extend_from_slice(b"\n")?;
+    Ok(text)
 }

@@ -1,0 +1,79 @@
+-- Trees and tables that are given as texts.
+use Rattle.std.proofs.Common.{◌≡◌, ◌⊎◌, inl, inr, ◌<◌, ◌≤◌, ℕ, List, [], ◌∷◌, length, map, Result, Ok, Err, IfOk, IfErr, refl, sym, ap, ◌∙◌, subst}
+use Rattle.std.specs.List.{AllByRecursion}
+use Rattle.limits.specs.declared.TheConstants.{MOST_FILE_BYTES, MOST_LISTED_DECORATIONS}
+use Rattle.degree_numbers.specs.declared.types.Types.{Types}
+use Rattle.plain_trees.specs.Plain.{Plain}
+use Rattle.plain_trees.specs.Reading.{IsTreeOf, IsRefused}
+use Rattle.plain_trees.specs.declared.error.TreeError.{TreeError}
+use Rattle.plain_trees.specs.declared.error.TreeError.TheVariants as errors
+use Rattle.tree_pool.specs.Content.{Content, tree_at, IsGrown}
+use Rattle.tree_pool.proofs.Growth.{grown_at}
+use Rattle.cutting_sizes.specs.Bounds.{IsFit}
+use Rattle.character_tables.specs.declared.table.CharacterRow.{CharacterRow}
+use Rattle.character_tables.specs.Rows.{Row, rows_over, AreKnownRows, IsCharacter}
+use Rattle.character_tables.specs.Texts.{IsTableText}
+use Rattle.workbench_core.specs.declared.refusal.Refusal.{Refusal}
+use Rattle.workbench_core.specs.declared.refusal.Refusal.TheVariants.{Memory}
+use Rattle.workbench_core.specs.GivenTable.{IsNoTable, IsForTable}
+use Rattle.workbench_core.specs.GivenTree.{IsTreeRefused, IsForTree}
+use Rattle.workbench_core.specs.Refusals.{of_tree_error}
+
+pub fit_of : (ty : Types) (text : List ℕ) (t : Plain) → IsTreeOf ty MOST_LISTED_DECORATIONS text t → IsFit t
+fit_of ty text t h = record { edges = h.edges; decorations = h.decorations }
+
+-- the text of no tree
+pub text_refused : {T : Type 0} (ty : Types) (text : List ℕ) (error : TreeError) (e : Refusal) → IsRefused ty MOST_LISTED_DECORATIONS text error → e ≡ of_tree_error error
+    → (e ≡ Memory) ⊎ IsTreeRefused {T = T} ty text (Err e)
+text_refused ty text errors.Memory e cause is = inl is
+text_refused ty text (errors.TreeText place) e cause is = inr (record { error = errors.TreeText place; cause = cause; not_memory = λ wrong. cc; answer = ap Err is })
+text_refused ty text (errors.UnknownType place) e cause is = inr (record { error = errors.UnknownType place; cause = cause; not_memory = λ wrong. cc; answer = ap Err is })
+text_refused ty text (errors.TooManyEdges count) e cause is = inr (record { error = errors.TooManyEdges count; cause = cause; not_memory = λ wrong. cc; answer = ap Err is })
+text_refused ty text (errors.TooManyDecorations total) e cause is = inr (record { error = errors.TooManyDecorations total; cause = cause; not_memory = λ wrong. cc; answer = ap Err is })
+text_refused ty text errors.NotCanonical e cause is = inr (record { error = errors.NotCanonical; cause = cause; not_memory = λ wrong. cc; answer = ap Err is })
+
+-- answers for a table that is given
+module _ {T : Type 0} (answers : List Row → Result T Refusal → Type 0) (ty : Types) (text : List ℕ) where
+  pub table_given : {V : Type 0} (view : V → T) (result : Result V Refusal) (rows : List Row) → length text ≤ MOST_FILE_BYTES → IsTableText ty text rows
+      → IfOk result (λ v. answers rows (Ok (view v))) → IfOk result (λ v. IsForTable answers ty text (Ok (view v)))
+  table_given view (Ok v) rows short table h = inl (short, rows, table, h)
+  table_given view (Err e) rows short table h = h
+
+  pub table_given_refused : {V : Type 0} (result : Result V Refusal) (rows : List Row) → length text ≤ MOST_FILE_BYTES → IsTableText ty text rows
+      → IfErr result (λ e. (e ≡ Memory) ⊎ answers rows (Err e)) → IfErr result (λ e. (e ≡ Memory) ⊎ IsForTable answers ty text (Err e))
+  table_given_refused (Ok v) rows short table h = h
+  table_given_refused (Err e) rows short table (inl memory) = inl memory
+  table_given_refused (Err e) rows short table (inr h) = inr (inl (short, rows, table, h))
+
+  pub no_table : (e : Refusal) → (e ≡ Memory) ⊎ IsNoTable ty text e → (e ≡ Memory) ⊎ IsForTable answers ty text (Err e)
+  no_table e (inl memory) = inl memory
+  no_table e (inr none) = inr (inr (e, none, refl))
+
+-- answers for a tree that is given
+module _ {T : Type 0} (answers : Plain → Result T Refusal → Type 0) (ty : Types) (text : List ℕ) where
+  pub tree_given : {V : Type 0} (view : V → T) (result : Result V Refusal) (t : Plain) → IsTreeOf ty MOST_LISTED_DECORATIONS text t → IfOk result (λ v. answers t (Ok (view v)))
+      → IfOk result (λ v. IsForTree answers ty text (Ok (view v)))
+  tree_given view (Ok v) t tree h = inl (t, tree, h)
+  tree_given view (Err e) t tree h = h
+
+  pub tree_given_refused : {V : Type 0} (result : Result V Refusal) (t : Plain) → IsTreeOf ty MOST_LISTED_DECORATIONS text t → IfErr result (λ e. (e ≡ Memory) ⊎ answers t (Err e))
+      → IfErr result (λ e. (e ≡ Memory) ⊎ IsForTree answers ty text (Err e))
+  tree_given_refused (Ok v) t tree h = h
+  tree_given_refused (Err e) t tree (inl memory) = inl memory
+  tree_given_refused (Err e) t tree (inr h) = inr (inl (t, tree, h))
+
+  pub refused_for : (e : Refusal) (t : Plain) → IsTreeOf ty MOST_LISTED_DECORATIONS text t → (e ≡ Memory) ⊎ answers t (Err e) → (e ≡ Memory) ⊎ IsForTree answers ty text (Err e)
+  refused_for e t tree (inl memory) = inl memory
+  refused_for e t tree (inr h) = inr (inl (t, tree, h))
+
+  pub no_tree : (e : Refusal) → (e ≡ Memory) ⊎ IsTreeRefused {T = T} ty text (Err e) → (e ≡ Memory) ⊎ IsForTree answers ty text (Err e)
+  no_tree e (inl memory) = inl memory
+  no_tree e (inr none) = inr (inr none)
+
+-- rows are the same in a pool that has grown
+pub grown_rows : (c d : Content) (rs : List CharacterRow) → IsGrown c d → AreKnownRows c rs → rows_over d rs ≡ rows_over c rs
+grown_rows c d [] grown known = refl
+grown_rows c d (r ∷ rs) grown known =
+    let first : tree_at d r.tree.0 ≡ tree_at c r.tree.0 = grown_at c d r.tree.0 grown known.0 in
+    let rest : rows_over d rs ≡ rows_over c rs = grown_rows c d rs grown known.1 in
+    cc

@@ -1,0 +1,163 @@
+// The actions of a character on a tree of an equation file.
+ghost use Rattle.std.specs.Prelude.{◌≡◌, ◌≢◌, ◌⊎◌, ◌<◌, length, Ok, Err, IfOk, IfErr};
+ghost use Rattle.equations.specs.Accepted.{IsEquation};
+ghost use Rattle.tree_pool.specs.Content.{tree_at};
+ghost use Rattle.cutting_sizes.specs.Bounds.{IsFit};
+ghost use Rattle.character_tables.specs.Rows.{rows_over, IsCharacter};
+ghost use Rattle.workbench_core.specs.Characters.{Acts, ActsFromLeft, ActsFromRight, IsActIn, IsActOf};
+
+use crate::given_table::given_table;
+use crate::given_tree::{GivenTree, given_tree};
+use crate::refusal::Refusal;
+use crate::sums::{act_text, sum_refusal};
+use bumpalo::Bump;
+use characters::{Character, act_left, act_right};
+use equation_file::read_equation;
+use equations::Equation;
+use extraction_coproduct::{Tables, Work};
+use recentring_coproduct::Recentrer;
+use std::alloc::Global;
+use tree_pool::{Pool, TreeId};
+
+/// The action of the character of a table on the tree with this text, for the equation of a file:
+/// the sum over the terms of its extraction coproduct, with the character of the forests, or, where
+/// `recentre` is set, over those of its recentring coproduct, with the character of the right
+/// trees. Refused in this order: the file writes down no equation; the text is not that of a tree
+/// over its types with at most 24 edges and a decoration sum of at most 64; the table has more than
+/// 65,536 bytes or a line that is none of a table; a coefficient of the coproduct passes 2^127-1;
+/// a tree that is looked up has no row; the absolute products sum up to more than 2^127-1. No rule
+/// is built.
+pub fn act_of(
+    alloc: Global,
+    file: &[u8],
+    tree: &[u8],
+    table: &[u8],
+    recentre: bool,
+) -> Result<Vec<u8>, Refusal>
+    ensures text { IfOk result (λ v.
+        IsActOf file.now tree.now table.now recentre (Ok v.items)) }
+    ensures refused { IfErr result (λ e.
+        (e ≡ Refusal.Memory) ⊎ IsActOf file.now tree.now table.now recentre (Err e)) }
+    ensures no_fault { result ≢ Err Refusal.FileFault }
+{
+    match read_equation(alloc, file) {
+        Ok(eq) => act_in(alloc, &eq, tree, table, recentre),
+        Err(refusal) => Err(Refusal::of_file(refusal)),
+    }
+}
+
+// The same for an equation.
+fn act_in(
+    alloc: Global,
+    eq: &Equation,
+    tree: &[u8],
+    table: &[u8],
+    recentre: bool,
+) -> Result<Vec<u8>, Refusal>
+    requires { IsEquation eq.now }
+    ensures text { IfOk result (λ v. IsActIn eq.now tree.now table.now recentre (Ok v.items)) }
+    ensures refused { IfErr result (λ e.
+        (e ≡ Refusal.Memory) ⊎ IsActIn eq.now tree.now table.now recentre (Err e)) }
+    ensures no_fault { result ≢ Err Refusal.FileFault }
+{
+    let arena = Bump::new(alloc);
+    let GivenTree { mut pool, id } = given_tree(alloc, &arena, &eq.types, tree)?;
+    let character = given_table(alloc, &eq.types, &mut pool, table)?;
+    act_in_pool(alloc, &arena, eq, pool, id, &character, recentre)
+}
+
+// The same in a pool, which is given up.
+fn act_in_pool<'a>(
+    alloc: Global,
+    arena: &'a Bump,
+    eq: &Equation,
+    pool: Pool<'a>,
+    id: TreeId,
+    character: &Character,
+    recentre: bool,
+) -> Result<Vec<u8>, Refusal>
+    requires types { pool.types ≡ eq.now.types }
+    requires known { id.0 < length pool.trees }
+    requires fit { IsFit (tree_at pool id.0) }
+    requires rows { IsCharacter pool character.now.rows }
+    ensures text { IfOk result (λ v.
+        Acts eq.now recentre (rows_over pool.entry character.now.rows) (tree_at pool.entry id.0)
+        (Ok v.items)) }
+    ensures refused { IfErr result (λ e. (e ≡ Refusal.Memory)
+        ⊎ Acts eq.now recentre (rows_over pool.entry character.now.rows) (tree_at pool.entry id.0)
+        (Err e)) }
+    ensures no_fault { result ≢ Err Refusal.FileFault }
+{
+    if recentre {
+        act_from_right(alloc, arena, eq, pool, id, character)
+    } else {
+        act_from_left(alloc, arena, eq, pool, id, character)
+    }
+}
+
+// The sum over the terms of the extraction coproduct.
+fn act_from_left<'a>(
+    alloc: Global,
+    arena: &'a Bump,
+    eq: &Equation,
+    pool: Pool<'a>,
+    id: TreeId,
+    character: &Character,
+) -> Result<Vec<u8>, Refusal>
+    requires types { pool.types ≡ eq.now.types }
+    requires known { id.0 < length pool.trees }
+    requires fit { IsFit (tree_at pool id.0) }
+    requires rows { IsCharacter pool character.now.rows }
+    ensures text { IfOk result (λ v.
+        ActsFromLeft eq.now (rows_over pool.entry character.now.rows) (tree_at pool.entry id.0)
+        (Ok v.items)) }
+    ensures refused { IfErr result (λ e. (e ≡ Refusal.Memory)
+        ⊎ ActsFromLeft eq.now (rows_over pool.entry character.now.rows) (tree_at pool.entry id.0)
+        (Err e)) }
+    ensures no_fault { result ≢ Err Refusal.FileFault }
+{
+    let Ok(mut tables) = Tables::new(alloc, arena, &eq.types, pool) else {
+        return Err(Refusal::Memory);
+    };
+    let mut work = Work { tables: 0 };
+    match act_left(alloc, &mut tables, character, id, &mut work) {
+        Ok(lines) => act_text(alloc, tables.pool(), &lines),
+        Err(error) => {
+            let refusal = sum_refusal(alloc, tables.pool(), id, b"extraction", b"act", error)?;
+            Err(refusal)
+        }
+    }
+}
+
+// The sum over the terms of the recentring coproduct.
+fn act_from_right<'a>(
+    alloc: Global,
+    arena: &'a Bump,
+    eq: &Equation,
+    mut pool: Pool<'a>,
+    id: TreeId,
+    character: &Character,
+) -> Result<Vec<u8>, Refusal>
+    requires types { pool.types ≡ eq.now.types }
+    requires known { id.0 < length pool.trees }
+    requires fit { IsFit (tree_at pool id.0) }
+    requires rows { IsCharacter pool character.now.rows }
+    ensures text { IfOk result (λ v.
+        ActsFromRight eq.now (rows_over pool.entry character.now.rows) (tree_at pool.entry id.0)
+        (Ok v.items)) }
+    ensures refused { IfErr result (λ e. (e ≡ Refusal.Memory)
+        ⊎ ActsFromRight eq.now (rows_over pool.entry character.now.rows) (tree_at pool.entry id.0)
+        (Err e)) }
+    ensures no_fault { result ≢ Err Refusal.FileFault }
+{
+    let Ok(mut recentrer) = Recentrer::new(alloc, arena) else {
+        return Err(Refusal::Memory);
+    };
+    match act_right(alloc, &mut pool, &mut recentrer, character, id) {
+        Ok(lines) => act_text(alloc, &pool, &lines),
+        Err(error) => {
+            let refusal = sum_refusal(alloc, &pool, id, b"recentring", b"act", error)?;
+            Err(refusal)
+        }
+    }
+}
