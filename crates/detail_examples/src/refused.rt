@@ -10,7 +10,10 @@ const REFUSED: [(&str, &str); 5] = [
     ("[u[xi]*xi]", "refused 14 TreeRefused NotCanonical\n"),
     ("[xi", "refused 14 TreeRefused TreeText 3\n"),
     ("[", "refused 14 TreeRefused TreeText 1\n"),
-    ("[X(0,0,65)*xi]", "refused 14 TreeRefused TooManyDecorations 65\n"),
+    (
+        "[X(0,0,65)*xi]",
+        "refused 14 TreeRefused TooManyDecorations 65\n",
+    ),
     (
         "[xi*xi*xi*xi*xi*xi*xi*xi*xi*xi*xi*xi*xi]",
         "refused 14 TooManyNoises 13\n",

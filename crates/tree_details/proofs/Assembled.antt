@@ -1,5 +1,5 @@
 -- The detail of a tree, from its parts.
-use Rattle.std.proofs.Common.{◌≡◌, ℕ, unsigned_abs, List, [], ◌∷◌, ◌++◌, codes, refl, sym, ap, ◌∙◌, subst, append_assoc}
+use Rattle.std.proofs.Common.{◌≡◌, ℕ, unsigned_abs, List, ◌++◌, codes, sym, ap, ◌∙◌, subst, append_assoc}
 use Rattle.degree_numbers.specs.declared.types.Types.{Types}
 use Rattle.degree_numbers.specs.Printing.{IsDegreeText}
 use Rattle.equations.specs.declared.equation.Equation.{Equation}
@@ -10,8 +10,8 @@ use Rattle.tree_pool.specs.Content.{tree_at}
 use Rattle.extraction_coproduct.specs.Finished.{TablesContent, grove_of}
 use Rattle.gaussian_pairings.specs.Pairings.{pairs_of}
 use Rattle.antipode_laws.specs.Weighed.{Weighed}
-use Rattle.antipode_laws.specs.Antipode.{nothing, tree_terms, IsAntipode}
-use Rattle.antipode_laws.specs.Constants.{expected, IsConstants}
+use Rattle.antipode_laws.specs.Antipode.{nothing, tree_terms}
+use Rattle.antipode_laws.specs.Constants.{expected}
 use Rattle.antipode_laws.proofs.Solutions.{solution, is_solution}
 use Rattle.twisted_antipode.specs.Known.{pairs_in}
 use Rattle.counterterm_report.specs.Report.{line, printed, differential_lines}

@@ -5,7 +5,7 @@ use Rattle.exact_sums.specs.Saturating.{overflow}
 use Rattle.degree_numbers.specs.declared.types.Types.{Types}
 use Rattle.equations.specs.declared.equation.Equation.{Equation}
 use Rattle.plain_trees.specs.Plain.{Plain}
-use Rattle.plain_trees.specs.Coproducts.{Extracted, Recentred}
+use Rattle.plain_trees.specs.Coproducts.{Recentred}
 use Rattle.tree_pool.specs.Content.{Content, IsGrown, tree_at}
 use Rattle.tree_pool.proofs.Growth.{grown_length, grown_at}
 use Rattle.pooled_cuttings.specs.Groves.{IsGrove}

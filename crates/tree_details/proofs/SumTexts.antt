@@ -1,5 +1,5 @@
 -- Polynomials are the sums of the terms whose coefficients they have; their lines.
-use Rattle.std.proofs.Common.{◌≡◌, ℕ, ◌*◌, unsigned_abs, List, [], ◌∷◌, length, refl, sym, ap, ◌∙◌, subst, arith}
+use Rattle.std.proofs.Common.{◌≡◌, List, [], ◌∷◌, length, refl, arith}
 use Rattle.std.specs.List.{All}
 use Rattle.std.proofs.lemmas.List.Elements.{All-head, All-tail}
 use Rattle.equations.specs.declared.equation.Equation.{Equation}
@@ -14,7 +14,7 @@ use Rattle.counterterm_report.specs.declared.values.DiffValue.{DiffValue}
 use Rattle.counterterm_report.specs.Report.{printed, differential_lines}
 use Rattle.counterterm_report.specs.Values.{IsPrinted}
 use Rattle.tree_details.specs.Detail.{IsSumText, AreDifferentialLines}
-use Rattle.tree_values.specs.Values.{IsDifferentialOf, AreDifferentialsOf}
+use Rattle.tree_values.specs.Values.{AreDifferentialsOf}
 use Rattle.tree_details.specs.Values.{IsPolynomialOf}
 
 weighed_once : (ts : List PlainTerm) → weighed (λ m. 1) ts ≡ size_of ts

@@ -1,4 +1,4 @@
-use Rattle.std.proofs.Common.{◌≡◌, ◌++◌, List, ℕ, codes, unsigned_abs, ap, ◌∙◌, subst}
+use Rattle.std.proofs.Common.{◌≡◌, ◌++◌, List, codes, unsigned_abs, ap, ◌∙◌, subst}
 use Rattle.degree_numbers.specs.Printing.{IsDegreeText}
 use Rattle.plain_trees.specs.Degree.{degree_of}
 use Rattle.tree_pool.specs.Content.{Content, tree_at}

@@ -1,4 +1,4 @@
-use Rattle.std.proofs.Common.{◌≡◌, [], ◌∷◌, refl, sym, ◌∙◌, subst, List}
+use Rattle.std.proofs.Common.{◌≡◌, ◌∷◌, refl, sym, ◌∙◌, subst, List}
 use Rattle.std.proofs.lemmas.Result.{err_from_is_err_and}
 use Rattle.degree_numbers.specs.declared.types.Types.{Types}
 use Rattle.plain_trees.specs.Plain.{Plain}
