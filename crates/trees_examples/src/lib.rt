@@ -1,4 +1,5 @@
-//! What `trees` answers for equations that people know and for files of examples/, and for files that it refuses.
+//! What `trees` and `compute` answer for equations that people know and for files of examples/, and
+//! for files that they refuse.
 #![tactic(auto)]
 
 #[cfg(test)]
@@ -7,5 +8,7 @@ mod examples;
 mod known;
 #[cfg(test)]
 mod refused;
+#[cfg(test)]
+mod reports;
 #[cfg(test)]
 mod runs;
