@@ -1,17 +1,13 @@
 -- Trees and tables that are given as texts.
-use Rattle.std.proofs.Common.{◌≡◌, ◌⊎◌, inl, inr, ◌<◌, ◌≤◌, ℕ, List, [], ◌∷◌, length, map, Result, Ok, Err, IfOk, IfErr, refl, sym, ap, ◌∙◌, subst}
-use Rattle.std.specs.List.{AllByRecursion}
+use Rattle.std.proofs.Common.{◌≡◌, ◌⊎◌, inl, inr, ◌≤◌, ℕ, List, length, Result, Ok, Err, IfOk, IfErr, refl, ap}
 use Rattle.limits.specs.declared.TheConstants.{MOST_FILE_BYTES, MOST_LISTED_DECORATIONS}
 use Rattle.degree_numbers.specs.declared.types.Types.{Types}
 use Rattle.plain_trees.specs.Plain.{Plain}
 use Rattle.plain_trees.specs.Reading.{IsTreeOf, IsRefused}
 use Rattle.plain_trees.specs.declared.error.TreeError.{TreeError}
 use Rattle.plain_trees.specs.declared.error.TreeError.TheVariants as errors
-use Rattle.tree_pool.specs.Content.{Content, tree_at, IsGrown}
-use Rattle.tree_pool.proofs.Growth.{grown_at}
 use Rattle.cutting_sizes.specs.Bounds.{IsFit}
-use Rattle.character_tables.specs.declared.table.CharacterRow.{CharacterRow}
-use Rattle.character_tables.specs.Rows.{Row, rows_over, AreKnownRows, IsCharacter}
+use Rattle.character_tables.specs.Rows.{Row}
 use Rattle.character_tables.specs.Texts.{IsTableText}
 use Rattle.workbench_core.specs.declared.refusal.Refusal.{Refusal}
 use Rattle.workbench_core.specs.declared.refusal.Refusal.TheVariants.{Memory}
@@ -69,11 +65,3 @@ module _ {T : Type 0} (answers : Plain → Result T Refusal → Type 0) (ty : Ty
   pub no_tree : (e : Refusal) → (e ≡ Memory) ⊎ IsTreeRefused {T = T} ty text (Err e) → (e ≡ Memory) ⊎ IsForTree answers ty text (Err e)
   no_tree e (inl memory) = inl memory
   no_tree e (inr none) = inr (inr none)
-
--- rows are the same in a pool that has grown
-pub grown_rows : (c d : Content) (rs : List CharacterRow) → IsGrown c d → AreKnownRows c rs → rows_over d rs ≡ rows_over c rs
-grown_rows c d [] grown known = refl
-grown_rows c d (r ∷ rs) grown known =
-    let first : tree_at d r.tree.0 ≡ tree_at c r.tree.0 = grown_at c d r.tree.0 grown known.0 in
-    let rest : rows_over d rs ≡ rows_over c rs = grown_rows c d rs grown known.1 in
-    cc

@@ -59,12 +59,14 @@ module _ (file tree first second : List ℕ) (r : Result (List ℕ) Refusal) whe
   by_second eq t table gs = IsForTable (λ hs. Multiplies eq gs hs t) eq.types table
 
   pub first_front : IsMultiplyOf file tree (take 65537 first) second r → IsMultiplyOf file tree first second r
+  unfolding by_second
   first_front h =
       file_with (λ eq. IsMultiplyIn eq tree (take 65537 first) second) (λ eq. IsMultiplyIn eq tree first second) file r
       (λ eq k. tree_with (λ t. IsForTable (by_second eq t second) eq.types (take 65537 first)) (λ t. IsForTable (by_second eq t second) eq.types first) eq.types tree r
       (λ t. table_front (by_second eq t second) eq.types first r) k) h
 
   pub second_front : IsMultiplyOf file tree first (take 65537 second) r → IsMultiplyOf file tree first second r
+  unfolding by_second
   second_front h =
       file_with (λ eq. IsMultiplyIn eq tree first (take 65537 second)) (λ eq. IsMultiplyIn eq tree first second) file r
       (λ eq k. tree_with (λ t. IsForTable (by_second eq t (take 65537 second)) eq.types first) (λ t. IsForTable (by_second eq t second) eq.types first) eq.types tree r

@@ -5,7 +5,7 @@
 --   summary_text number eq vs == `sample N unknowns M trees T constants C counterterms L`
 --   summary_of number v == the summary of what is reported, or the same refusal
 --   IsSampled number r == r is that for the sample file of this number
-use Rattle.std.specs.Prelude.{◌≡◌, ℕ, not, if◌then◌else◌, List, ◌++◌, length, codes, decimal, Result, Ok, Err}
+use Rattle.std.specs.Prelude.{◌≡◌, ℕ, not, if◌then◌else◌, List, ◌++◌, filter, length, codes, decimal, Result, Ok, Err}
 use Rattle.std.specs.List.{count_by, sum_by}
 use Rattle.equations.specs.declared.equation.Equation.{Equation}
 use Rattle.numerals.specs.Numerals.{numeral}
@@ -18,7 +18,7 @@ use Rattle.workbench_core.specs.Completed.{IsForCompleted}
 use Rattle.workbench_core.specs.Compute.{GivesValues}
 
 abbrev pub constant_count : List TreeValues → ℕ
-constant_count vs = count_by (λ v. not (is_zero v.constant)) vs
+constant_count vs = length (filter (λ v. not (is_zero v.constant)) vs)
 
 abbrev pub line_count : TreeValues → ℕ
 line_count v =

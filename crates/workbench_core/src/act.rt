@@ -121,7 +121,7 @@ fn act_from_left<'a>(
     };
     let mut work = Work { tables: 0 };
     match act_left(alloc, &mut tables, character, id, &mut work) {
-        Ok(lines) => act_text(alloc, tables.pool(), &lines),
+        Ok(lines) => Ok(act_text(alloc, tables.pool(), &lines)?),
         Err(error) => {
             let refusal = sum_refusal(alloc, tables.pool(), id, b"extraction", b"act", error)?;
             Err(refusal)
@@ -154,7 +154,7 @@ fn act_from_right<'a>(
         return Err(Refusal::Memory);
     };
     match act_right(alloc, &mut pool, &mut recentrer, character, id) {
-        Ok(lines) => act_text(alloc, &pool, &lines),
+        Ok(lines) => Ok(act_text(alloc, &pool, &lines)?),
         Err(error) => {
             let refusal = sum_refusal(alloc, &pool, id, b"recentring", b"act", error)?;
             Err(refusal)

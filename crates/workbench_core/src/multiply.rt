@@ -12,6 +12,7 @@ use crate::given_tree::{GivenTree, given_tree};
 use crate::refusal::Refusal;
 use crate::sums::{product_text, sum_refusal};
 use bumpalo::Bump;
+use character_tables::growth_laws;
 use characters::{Character, product};
 use equation_file::read_equation;
 use equations::Equation;
@@ -85,6 +86,7 @@ fn multiply_by<'a>(
         (tree_at pool.entry id.0)) eq.now.types second.now (Err e)) }
     ensures no_fault { result ≢ Err Refusal.FileFault }
 {
+    growth_laws();
     let second = given_table(alloc, &eq.types, &mut pool, second)?;
     multiply_in_pool(alloc, arena, eq, pool, id, first, &second)
 }

@@ -1,5 +1,5 @@
 // The summary of a sample file.
-ghost use Rattle.std.specs.Prelude.{◌≡◌, ◌≢◌, ◌⊎◌, ◌≤◌, ◌++◌, codes, decimal, Ok, Err, IfOk, IfErr, OnOk};
+ghost use Rattle.std.specs.Prelude.{◌≡◌, ◌≢◌, ◌⊎◌, ◌<◌, ◌^◌, ◌++◌, codes, decimal, Ok, Err, IfOk, IfErr, OnOk};
 ghost use Rattle.numerals.specs.Numerals.{numeral};
 ghost use Rattle.workbench_core.specs.Sample.{constant_count, line_count, counterterm_count, summary_text, IsSampled};
 
@@ -68,7 +68,8 @@ fn constant_count(trees: &[TreeValues]) -> usize
 
 // For how many unknowns a tree has a counterterm.
 fn line_count(values: &TreeValues) -> usize
-    ensures { result ≡ line_count values.now }
+    ensures count { result ≡ line_count values.now }
+    ensures fits { result < 2 ^ 64 }
 {
     if is_zero(&values.constant) {
         return 0;
