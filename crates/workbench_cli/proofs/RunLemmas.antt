@@ -1,16 +1,16 @@
 -- Answers to requests.
-use Rattle.std.proofs.Common.{◌≡◌, ◌≢◌, ◌⊎◌, inl, inr, ℕ, List, [], ◌∷◌, ◌++◌, take, Option, None, Some, Result, Ok, Err, IfOk, IfErr, map, refl, sym, ap, ◌∙◌, subst, arith}
+use Rattle.std.proofs.Common.{◌≡◌, ◌≢◌, ◌⊎◌, inl, inr, ℕ, List, [], ◌∷◌, ◌++◌, take, Option, None, Some, Result, Ok, Err, IfOk, IfErr, OnOk, map, refl, sym, ap, ◌∙◌, subst, arith}
 use Rattle.wb_outside.specs.Told.{Writing}
 use Rattle.workbench_core.specs.declared.refusal.Refusal.{Refusal}
 use Rattle.workbench_core.specs.declared.refusal.Refusal.TheVariants.{FileFault, Memory}
 use Rattle.workbench_core.specs.declared.request.Request.{Request}
-use Rattle.workbench_core.specs.Answers.{Answer, of_refusal, IsGiven}
+use Rattle.workbench_core.specs.Answers.{Answer, of_refusal, IsGiven, IsCounted}
 use Rattle.workbench_core.specs.Requests.{IsRequest, files_of}
-use Rattle.workbench_core.proofs.Fronts.{AreFronts, IsGiven-fronts}
+use Rattle.workbench_core.proofs.Fronts.{AreFronts, IsGiven-fronts, IsCounted-fronts}
 use Rattle.workbench_core.proofs.RequestLemmas.{same_request}
 use Rattle.workbench_cli.specs.Delivery.{IsDelivered}
 use Rattle.workbench_cli.specs.Reading.{AreRead}
-use Rattle.workbench_cli.specs.Runs.{IsTold, AreTold, IsOfFiles, IsAnswer, IsAnswerTo}
+use Rattle.workbench_cli.specs.Runs.{IsTold, AreTold, IsOfFiles, IsCountedOf, IsAnswer, IsAnswerTo}
 use Rattle.workbench_cli.proofs.DeliveryLemmas.{delivered_status}
 
 module _ (texts : List ℕ → Option (List ℕ)) where
@@ -44,6 +44,14 @@ module _ (texts : List ℕ → Option (List ℕ)) where
   refusals_of_files r names pieces (Ok x) same read given = given
   refusals_of_files r names pieces (Err e) same read (inl memory) = inr (inl memory)
   refusals_of_files r names pieces (Err e) same read (inr given) = inr (inr (of_files r names pieces (of_refusal e) same read given))
+
+  -- what was counted for the pieces that were read is counted for the files
+  pub counted_of_files : {T E : Type 0} (r : Request) (names pieces : List (List ℕ)) (result : Result T E) (before after : ℕ) → names ≡ files_of r → AreRead texts names pieces
+      → OnOk result (IsCounted r pieces before after) → OnOk result (IsCountedOf r texts before after)
+  counted_of_files r names pieces (Ok x) before after same read counted =
+      let files = files_read names pieces read in
+      (files.0, subst (λ ns. AreTold texts ns files.0) same files.1, IsCounted-fronts pieces files.0 before after files.2 r counted)
+  counted_of_files r names pieces (Err e) before after same read counted = counted
 
   pub refused_answer : (r : Request) (x e : Refusal) → (e ≡ x) ⊎ (e ≡ Memory) → (x ≡ FileFault) ⊎ (x ≡ Memory) ⊎ IsOfFiles r texts (of_refusal x) → IsAnswer r texts (of_refusal e)
   refused_answer r x e (inr memory) h = inr (inl (ap of_refusal memory))
@@ -84,3 +92,11 @@ module _ (texts : List ℕ → Option (List ℕ)) where
       let one : h.0 ≡ r = same_request words h.0 r h.1 is in
       given_for r told a code out err same file memory (subst (λ s. IsAnswer s texts a) one h.2) delivered
   given_to words told r a code out err is same file memory (inr none) delivered = absurd (none.0 r is)
+
+  -- what was counted for files that are told
+  pub counted_to : (words told : List (List ℕ)) (q r : Request) (before after : ℕ) → IsRequest words q → IsRequest words r → map texts (files_of r) ≡ map Some told
+      → IsCountedOf q texts before after → IsCounted r told before after
+  counted_to words told q r before after of is same counted =
+      let one : q ≡ r = same_request words q r of is in
+      let h = subst (λ s. IsCountedOf s texts before after) one counted in
+      subst (λ files. IsCounted r files before after) (told_one (files_of r) h.0 told h.1 same) h.2

@@ -1,15 +1,15 @@
 // The top call.
-ghost use Rattle.std.specs.Prelude.{◌≡◌, ◌≢◌, ◌↔◌, ◌⊎◌, ◌≤◌, ℕ, List, [], ◌∷◌, map, Some, Err, string_bytes, OnOk, IfOk, IfErr};
+ghost use Rattle.std.specs.Prelude.{◌≡◌, ◌≢◌, ◌↔◌, ◌⊎◌, ℕ, List, [], ◌∷◌, map, Some, Err, string_bytes, OnOk, IfOk, IfErr};
 ghost use Rattle.wb_outside.specs.Causes.{Rose};
 ghost use Rattle.wb_outside.specs.Told.{Lengthens, Grows, GrowsByFront, Gets, writing};
 ghost use Rattle.workbench_core.specs.declared.refusal.Refusal.{Refusal};
 ghost use Rattle.workbench_core.specs.declared.request.Request.{Request};
-ghost use Rattle.workbench_core.specs.Answers.{Answer, of_output, of_refusal, IsGiven};
+ghost use Rattle.workbench_core.specs.Answers.{Answer, of_output, of_refusal, IsGiven, IsCounted};
 ghost use Rattle.workbench_core.specs.Fixed.{fixed_status, fixed_line};
 ghost use Rattle.workbench_core.specs.Refusals.{status_of, line_of};
 ghost use Rattle.workbench_core.specs.Requests.{IsRequest, IsNoRequest, files_of};
 ghost use Rattle.workbench_cli.specs.Delivery.{IsDelivered};
-ghost use Rattle.workbench_cli.specs.Runs.{IsOfFiles, IsAnswer, IsAnswerTo, AsksFor, Asks};
+ghost use Rattle.workbench_cli.specs.Runs.{IsOfFiles, IsCountedOf, IsAnswer, IsAnswerTo, AsksFor, Asks};
 
 use crate::reading::read_files;
 use crate::words::read_words;
@@ -47,8 +47,11 @@ pub fn workbench<F: Files, O: Sink, E: Sink>(
         → result.code ≢ 3 → result.code ≢ 17
         → (a : Answer) × IsGiven r texts a × IsDelivered a result.code (writing O.told O.faults out.old out.new) (writing E.told E.faults err.old err.new) }
 
-    // The count of the work never falls.
-    ensures count { work.old.tables ≤ work.new.tables }
+    // What a request counts for files that are told: for a report, at most the constants that were
+    // computed for it.
+    ensures work { (r : Request) (texts : List (List ℕ)) → IsRequest (map string_bytes words.now) r
+        → map (F.text files.old) (files_of r) ≡ map Some texts → result.code ≡ 0
+        → IsCounted r texts work.old.tables work.new.tables }
 
     // The names that are asked for.
     ensures asked { Asks (map string_bytes words.now) result.code (F.asked files.old) (F.asked files.new) }
@@ -73,7 +76,8 @@ fn run<F: Files, O: Sink, E: Sink>(
     ensures write_fault { result.code ≡ 15 → Rose (O.faults out.old) (O.faults out.new) ⊎ Rose (E.faults err.old) (E.faults err.new) }
     ensures answer { (a : Answer) × IsAnswer request.now (F.text files.old) a
         × IsDelivered a result.code (writing O.told O.faults out.old out.new) (writing E.told E.faults err.old err.new) }
-    ensures count { work.old.tables ≤ work.new.tables }
+    ensures work { result.code ≡ 0 → IsCountedOf request.now (F.text files.old) work.old.tables
+        work.new.tables }
     ensures asked { AsksFor (files_of request.now) (result.code ≡ 3) (result.code ≡ 17) (F.asked files.old) (F.asked files.new) }
 {
     match answer(alloc, request, files, work) {
@@ -92,7 +96,8 @@ fn answer<F: Files>(
     ensures given { IfOk result (λ o. IsOfFiles request.now (F.text files.old) (of_output o)) }
     ensures refused { IfErr result (λ e. (e ≡ Refusal.FileFault) ⊎ (e ≡ Refusal.Memory) ⊎ IsOfFiles request.now (F.text files.old) (of_refusal e)) }
     ensures cause { IfErr result (λ e. e ≡ Refusal.FileFault → Rose (F.faults files.old) (F.faults files.new)) }
-    ensures count { work.old.tables ≤ work.new.tables }
+    ensures work { OnOk result (IsCountedOf request.now (F.text files.old) work.old.tables
+        work.new.tables) }
     ensures asked { OnOk result (Lengthens (F.asked files.old) (F.asked files.new) (files_of request.now)) }
     ensures stopped { IfErr result (λ e. AsksFor (files_of request.now) (e ≡ Refusal.FileFault) (e ≡ Refusal.Memory) (F.asked files.old) (F.asked files.new)) }
 {

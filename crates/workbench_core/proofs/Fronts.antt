@@ -1,14 +1,15 @@
 -- What the fronts of files give.
-use Rattle.std.proofs.Common.{◌≡◌, ◌⊎◌, inl, inr, ℕ, zero, suc, Bool, List, [], ◌∷◌, take, Result, sym, ap, subst}
+use Rattle.std.proofs.Common.{◌≡◌, ◌⊎◌, inl, inr, ℕ, zero, suc, Bool, List, [], ◌∷◌, take, Result, Ok, sym, ap, subst}
 use Rattle.workbench_core.specs.declared.refusal.Refusal.{Refusal}
 use Rattle.workbench_core.specs.declared.request.Request.{Request}
 use Rattle.workbench_core.specs.declared.request.Request.TheVariants.{Check, Compute, Trees, Detail, Act, Multiply, Sample}
 use Rattle.equations.specs.declared.equation.Equation.{Equation}
-use Rattle.workbench_core.specs.Answers.{Answer, of_result, of_computing, IsPrinted, file_at, IsGiven}
+use Rattle.workbench_core.specs.Answers.{Answer, of_result, of_computing, IsPrinted, file_at, IsGiven, IsComputedWithin, IsCounted}
 use Rattle.workbench_core.specs.Characters.{IsActIn, IsActOf, IsMultiplyIn, IsMultiplyOf}
 use Rattle.workbench_core.specs.Check.{IsVerdict}
 use Rattle.workbench_core.specs.Completed.{IsForEquation}
 use Rattle.workbench_core.specs.Compute.{WritesReport}
+use Rattle.workbench_core.specs.Detail.{IsDetailIn}
 use Rattle.workbench_core.specs.Files.{IsForFile}
 use Rattle.workbench_core.specs.Trees.{ListsTrees}
 use Rattle.workbench_core.proofs.FileLemmas.{IsForFile-take}
@@ -60,7 +61,23 @@ module _ (pieces files : List (List ℕ)) (a : Answer) (fronts : AreFronts piece
   IsGiven-fronts (Check name) h = file_front of_result IsVerdict h
   IsGiven-fronts (Compute name) h = file_front of_computing (IsForEquation WritesReport) h
   IsGiven-fronts (Trees name) h = file_front of_result (IsForEquation ListsTrees) h
-  IsGiven-fronts (Detail name tree) h = absurd h
+  IsGiven-fronts (Detail name tree) h = file_front of_result (λ eq. IsDetailIn eq tree) h
   IsGiven-fronts (Act name tree table recentre) h = acts_front tree recentre h
   IsGiven-fronts (Multiply name tree first second) h = multiplies_front tree h
   IsGiven-fronts (Sample number) h = h
+
+-- and so is what was counted
+pub IsCounted-fronts : (pieces files : List (List ℕ)) (before after : ℕ) → AreFronts pieces files → (r : Request) → IsCounted r pieces before after → IsCounted r files before after
+IsCounted-fronts pieces files before after fronts (Check name) h = h
+IsCounted-fronts pieces files before after fronts (Compute name) h =
+    record {
+      computing = h.computing;
+      computed = of_front of_computing (IsForFile (IsForEquation WritesReport)) (IsForFile-take (IsForEquation WritesReport)) (file_at pieces 0) (file_at files 0) (Ok h.computing)
+          (front_at pieces files 0 fronts) h.computed;
+      most = h.most;
+    }
+IsCounted-fronts pieces files before after fronts (Trees name) h = h
+IsCounted-fronts pieces files before after fronts (Detail name tree) h = h
+IsCounted-fronts pieces files before after fronts (Act name tree table recentre) h = h
+IsCounted-fronts pieces files before after fronts (Multiply name tree first second) h = h
+IsCounted-fronts pieces files before after fronts (Sample number) h = h

@@ -11,7 +11,11 @@
 --   file_at files i == the bytes of the file with the number i, from 0
 --   IsGiven r files a == a is what the request r gives, where the files that it reads have these
 --       bytes
-use Rattle.std.specs.Prelude.{◌≡◌, ℕ, List, [], ◌++◌, codes, decimal, slice_index_or, Result, Ok, Err}
+--   IsComputedWithin file before after == the report of the file is computed, and the count of the
+--       work rose by at most as many as constants were computed for it
+--   IsCounted r files before after == so it is where the request r, on files with these bytes, is
+--       for a report; else the count is the same
+use Rattle.std.specs.Prelude.{◌≡◌, ◌≤◌, ◌+◌, ℕ, List, [], ◌++◌, codes, decimal, slice_index_or, Result, Ok, Err}
 use Rattle.workbench_core.specs.declared.answer.Output.{Output}
 use Rattle.workbench_core.specs.declared.fixed.FixedRefusal.{FixedRefusal}
 use Rattle.workbench_core.specs.declared.refusal.Refusal.{Refusal}
@@ -20,6 +24,7 @@ use Rattle.workbench_core.specs.declared.request.Request.TheVariants.{Check, Com
 use Rattle.workbench_core.specs.Characters.{IsActOf, IsMultiplyOf}
 use Rattle.workbench_core.specs.Check.{IsChecked}
 use Rattle.workbench_core.specs.Compute.{Computing, IsComputed}
+use Rattle.workbench_core.specs.Detail.{IsDetailOf}
 use Rattle.workbench_core.specs.Fixed.{fixed_status, fixed_line}
 use Rattle.workbench_core.specs.Refusals.{status_of, line_of}
 use Rattle.workbench_core.specs.Sample.{IsSampled}
@@ -65,10 +70,20 @@ abbrev pub IsGiven : Request → List (List ℕ) → Answer → Type 0
 IsGiven (Check file) files a = IsPrinted of_result (IsChecked (file_at files 0)) a
 IsGiven (Compute name) files a = IsPrinted of_computing (IsComputed (file_at files 0)) a
 IsGiven (Trees name) files a = IsPrinted of_result (IsTreesOf (file_at files 0)) a
-IsGiven (Detail name tree) files a = ⊥
+IsGiven (Detail name tree) files a =
+    IsPrinted of_result (IsDetailOf (file_at files 0) tree) a
 IsGiven (Act name tree table recentre) files a =
     IsPrinted of_result (λ r. IsActOf (file_at files 0) tree (file_at files 1) recentre r) a
 IsGiven (Multiply name tree first second) files a =
     IsPrinted of_result
     (λ r. IsMultiplyOf (file_at files 0) tree (file_at files 1) (file_at files 2) r) a
 IsGiven (Sample number) files a = IsPrinted of_result (IsSampled number) a
+
+pub record IsComputedWithin (file : List ℕ) (before after : ℕ) : Type 0 where
+  pub computing : Computing
+  pub computed : IsComputed file (Ok computing)
+  pub most : after ≤ before + computing.computed
+
+abbrev pub IsCounted : Request → List (List ℕ) → ℕ → ℕ → Type 0
+IsCounted (Compute name) files before after = IsComputedWithin (file_at files 0) before after
+IsCounted r files before after = after ≡ before

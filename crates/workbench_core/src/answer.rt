@@ -1,12 +1,13 @@
 // What a request gives for the bytes of its files.
-ghost use Rattle.std.specs.Prelude.{◌≡◌, ◌≢◌, ◌⊎◌, ◌≤◌, map, length, is_ok, Ok, Err, IfOk, IfErr};
+ghost use Rattle.std.specs.Prelude.{◌≡◌, ◌≢◌, ◌⊎◌, map, length, is_ok, Ok, Err, IfOk, IfErr, OnOk};
 ghost use Rattle.workbench_core.specs.declared.refusal.Refusal.{Refusal};
-ghost use Rattle.workbench_core.specs.Answers.{of_output, of_refusal, of_result, of_computing, note_text, IsPrinted, IsGiven};
+ghost use Rattle.workbench_core.specs.Answers.{of_output, of_refusal, of_result, of_computing, note_text, IsPrinted, IsGiven, IsComputedWithin, IsCounted};
 ghost use Rattle.workbench_core.specs.Compute.{IsComputed};
 ghost use Rattle.workbench_core.specs.Requests.{files_of};
 
 use crate::act::act_of;
 use crate::compute::compute_of;
+use crate::detail::detail_of;
 use crate::multiply::multiply_of;
 use crate::refusal::Refusal;
 use crate::request::Request;
@@ -51,13 +52,17 @@ pub fn answer_for(
     ensures refused { IfErr result (λ e. (e ≡ Refusal.Memory)
         ⊎ IsGiven request.now (map (λ v. v.items) files.now) (of_refusal e)) }
     ensures no_fault { result ≢ Err Refusal.FileFault }
-    ensures count { work.old.tables ≤ work.new.tables }
+    ensures work { OnOk result (IsCounted request.now (map (λ v. v.items) files.now)
+        work.old.tables work.new.tables) }
 {
     match request {
         Request::Check { .. } => output_of(alloc, check(alloc, &files[0])),
         Request::Compute { .. } => report_output(alloc, &files[0], work),
         Request::Trees { .. } => output_of(alloc, trees_of(alloc, &files[0])),
-        Request::Detail { .. } => Err(Refusal::Memory),
+        Request::Detail { tree, .. } => output_of(
+            alloc,
+            detail_of(alloc, &files[0], tree.as_str().as_bytes()),
+        ),
         Request::Act { tree, recentre, .. } => output_of(
             alloc,
             act_of(
@@ -100,7 +105,7 @@ fn report_output(alloc: Global, file: &[u8], work: &mut Work) -> Result<Output, 
     ensures refused { IfErr result (λ e. (e ≡ Refusal.Memory)
         ⊎ IsPrinted of_computing (IsComputed file.now) (of_refusal e)) }
     ensures no_fault { result ≢ Err Refusal.FileFault }
-    ensures count { work.old.tables ≤ work.new.tables }
+    ensures work { OnOk result (IsComputedWithin file.now work.old.tables work.new.tables) }
 {
     let computed = compute_of(alloc, file, work)?;
     let note = note(alloc, computed.reused, computed.computed)?;
