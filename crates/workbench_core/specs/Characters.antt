@@ -55,7 +55,7 @@ IsWithoutSum ty t coproduct sum xs missing size e =
     ((AreInRange xs → ⊥) × (e ≡ CoefficientTooLarge (tree_text ty t) coproduct))
     ⊎ (AreInRange xs × (u : Plain) × IsFirst missing u × (e ≡ Missing (tree_text ty u)))
     ⊎ (AreInRange xs × (missing ≡ []) × (overflow ≤ size)
-        × (e ≡ CoefficientTooLarge (tree_text ty t) sum))
+    × (e ≡ CoefficientTooLarge (tree_text ty t) sum))
 
 abbrev pub ActsFromLeft : Equation → List Row → Plain → Result (List ℕ) Refusal → Type 0
 ActsFromLeft eq gs t (Ok text) =

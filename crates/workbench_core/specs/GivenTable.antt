@@ -17,7 +17,7 @@ abbrev pub IsNoTable : Types → List ℕ → Refusal → Type 0
 IsNoTable ty text e =
     ((MOST_FILE_BYTES < length text) × (e ≡ Limit Bytes (pos (MOST_FILE_BYTES + 1))))
     ⊎ ((length text ≤ MOST_FILE_BYTES) × (line : ℕ) × IsTableRefused ty text (tables.TableRefused line)
-        × (e ≡ TableRefused line))
+    × (e ≡ TableRefused line))
 
 abbrev pub IsForTable : {T : Type 0} → (List Row → Result T Refusal → Type 0) → Types → List ℕ →
     Result T Refusal → Type 0

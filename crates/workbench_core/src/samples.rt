@@ -34,7 +34,11 @@ fn summary(alloc: Global, number: u32, reported: &Reported) -> Result<Vec<u8>, A
     let trees = reported.values.trees.as_slice();
     let mut text = Vec::new(alloc);
     put_counted(b"sample ", number as usize, &mut text)?;
-    put_counted(b" unknowns ", reported.eq.unknowns.as_slice().len(), &mut text)?;
+    put_counted(
+        b" unknowns ",
+        reported.eq.unknowns.as_slice().len(),
+        &mut text,
+    )?;
     put_counted(b" trees ", trees.len(), &mut text)?;
     put_counted(b" constants ", constant_count(trees), &mut text)?;
     put_last(counterterm_count(trees), &mut text)?;

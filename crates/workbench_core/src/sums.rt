@@ -19,11 +19,7 @@ use tree_pool::{Pool, TreeId};
 
 /// The lines of a sum of trees of a pool: `act N`, and each with its coefficient and its tree.
 /// Refused only for want of memory.
-pub(crate) fn act_text(
-    alloc: Global,
-    pool: &Pool<'_>,
-    lines: &[Line],
-) -> Result<Vec<u8>, Refusal>
+pub(crate) fn act_text(alloc: Global, pool: &Pool<'_>, lines: &[Line]) -> Result<Vec<u8>, Refusal>
     requires { AreKnownLines pool.now lines.now }
     ensures text { IfOk result (λ v.
         v.items ≡ act_text pool.now.types (lines_over pool.now lines.now)) }
@@ -71,12 +67,7 @@ fn put_lines(
     Ok(())
 }
 
-fn put_line(
-    alloc: Global,
-    pool: &Pool<'_>,
-    line: &Line,
-    text: &mut Vec<u8>,
-) -> Result<(), Refusal>
+fn put_line(alloc: Global, pool: &Pool<'_>, line: &Line, text: &mut Vec<u8>) -> Result<(), Refusal>
     requires { line.now.tree.0 < length pool.now.trees }
     ensures line { OnOk result (text.new.items ≡ text.old.items
         ++ line_text pool.now.types (tree_at pool.now line.now.tree.0, line.now.coefficient)) }
