@@ -96,7 +96,7 @@ module _ (c : Content) (ids : List TreeId) (known : AreTrees c ids) (i : ℕ) (i
   pub first_still : b ≡ false → IsFirstSoFar c ids (take (i + 1) ids) first
   first_still e =
       let back : tree_order (tree_at c first.0) (tree_at c id.0) ≡ ordering_reverse o = tree_order_total.antisymm (tree_at c first.0) (tree_at c id.0) ∙ ap ordering_reverse (sym
-          in_trees) in
+      in_trees) in
       record {
         known = so_far.known;
         member = so_far.member;

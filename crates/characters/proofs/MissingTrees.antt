@@ -33,7 +33,7 @@ module _ (c : Content) (rs : List Row) where
       new ≡ old ++ lacking rs (tree_at c id.0 ∷ []) → old ++ lacking rs (trees_of c (drop i ids)) ≡ whole → new ++ lacking rs (trees_of c (drop (i + 1) ids)) ≡ whole
   lacking_step =
       row_step (λ (ids : List TreeId). lacking rs (trees_of c ids)) (λ (id : TreeId). lacking rs (tree_at c id.0 ∷ [])) (λ id ids. lacking_parts rs (tree_at c id.0) (trees_of c
-          ids))
+      ids))
 
 module _ (c : Content) (gs hs : List Row) where
   -- one question
@@ -50,4 +50,4 @@ module _ (c : Content) (gs hs : List Row) where
       new ++ missing gs hs (map (asked_in c) (drop (i + 1) asks)) ≡ whole
   missing_step =
       row_step (λ (asks : List Asked). missing gs hs (map (asked_in c) asks)) (λ (a : Asked). missing gs hs (asked_in c a ∷ [])) (λ a asks. missing_parts gs hs (asked_in c a)
-          (map (asked_in c) asks))
+      (map (asked_in c) asks))

@@ -48,8 +48,10 @@ module _ (c : Content) (gs hs : List Row) (asks : List Asked) (i : ℕ) (a : Ask
       omega (arith, all, product_size (factors gs hs (asked_in c a)), h)
 
 -- one term more
-pub term_pushed : (c : Content) (gs hs : List Row) (a : Asked) (terms new : List (TreeId × ℤ)) (z : ℤ) → z ≡ product_of (factors gs hs (asked_in c a)) → new ≡ terms ++ (a.key,
-    z) ∷ [] →
+pub term_pushed : (c : Content) (gs hs : List Row) (a : Asked) (terms new : List (TreeId × ℤ)) (z : ℤ) → z ≡ product_of (factors gs hs (asked_in c a)) → new ≡ terms ++ (
+  a.key,
+  z,
+) ∷ [] →
     terms_over c new ≡ terms_over c terms ++ answer gs hs (asked_in c a) ∷ []
 term_pushed c gs hs a terms new z e p =
     ap (terms_over c) p ∙ map-append (λ (t : TreeId × ℤ). (tree_at c t.0.0, t.1)) terms ((a.key, z) ∷ [])
@@ -57,7 +59,7 @@ term_pushed c gs hs a terms new z e p =
 
 pub term_step : (c : Content) (gs hs : List Row) (asks : List Asked) (i : ℕ) (a : Asked) (old new whole : List (Plain × ℤ)) → i < length asks → a ≡ get_or asks i a →
     new ≡ old ++ answer gs hs (asked_in c a) ∷ [] → old ++ answers gs hs (map (asked_in c) (drop i asks)) ≡ whole → new ++ answers gs hs (map (asked_in c) (drop (i + 1) asks)) ≡
-        whole
+    whole
 term_step c gs hs = row_step (λ (asks : List Asked). answers gs hs (map (asked_in c) asks)) (λ (a : Asked). answer gs hs (asked_in c a) ∷ []) (λ a asks. refl)
 
 -- what the sizes say of the trees

@@ -52,7 +52,7 @@ module _ {K : Type 0} (same : K → K → Bool) (k : K) where
   coefficient_parts [] = omega (arith, ints)
   coefficient_parts (t ∷ ts) =
       plus_parts (cond (same t.0 k) t.1 (pos 0)) (coefficient_at same k ts) (above t) (below t) (sum_by above ts) (sum_by below ts) (one_part (same t.0 k) t.1)
-          (coefficient_parts ts)
+      (coefficient_parts ts)
       ∙ ap (λ (n : ℕ). pos n -ℤ pos (below t + sum_by below ts)) (sym (sum_by-cons above t ts))
       ∙ ap (λ (n : ℕ). pos (sum_by above (t ∷ ts)) -ℤ pos n) (sym (sum_by-cons below t ts))
 
@@ -196,7 +196,7 @@ module _ (c : Content) where
     trees_sorted =
         rw (keys_over us)
         (sorted-map (key_order c) tree_order (λ (t : TreeId × ℤ). tree_at c t.0.0) (λ (t : TreeId × ℤ). t.0.0 < length c.trees) (λ s t a b. id_order-at c s.0.0 t.0.0 a b) us
-            known_us sorted)
+        known_us sorted)
 
     meant : lines_over c ls ≡ without_zeros (joined (same_by tree_order) (terms_over c us))
     meant =

@@ -17,7 +17,7 @@ returns-in-Err-clause-refusal c =
     let xs = coproduct_of old.pool c.args.id.0 in
     let gs = rows_over old.pool c.args.g.now.rows in
     coproduct_refused c.coproduct.new.self.pool xs (lacking_left gs xs) (size_of (left_products gs xs)) c.in-Err.e c.extraction_refusal.result c.extraction_refusal.ensures
-        c.in-Err.ensures.refusal
+    c.in-Err.ensures.refusal
 
 pub returns-in-Err-clause-counted : goal.returns-in-Err-clause-counted
 returns-in-Err-clause-counted c = inl c.in-Err.ensures.counted
@@ -30,7 +30,7 @@ returns-clause-lines c =
     let old = c.args.tables.now.pool in
     let new = c.coproduct.new.self in
     let sums = left_sum old new.pool c.in-Ok.ensures.grown.pool c.args.g.now.rows c.requires.rows.known (terms_in (grove_of new) c.in-Ok.terms.now) (coproduct_of old
-        c.args.id.0) c.in-Ok.ensures.terms in
+    c.args.id.0) c.in-Ok.ensures.terms in
     subst (λ (ps : List (Plain × ℤ)). IfOk c.left_lines.result (λ v. IsSumOf tree_order ps (lines_over new.pool v.items))) sums c.left_lines.ensures.sum
 
 pub returns-clause-given : goal.returns-clause-given
@@ -43,9 +43,9 @@ returns-clause-given c =
     let grown = c.in-Ok.ensures.grown.pool in
     let known = c.requires.rows.known in
     given_is new.pool xs c.in-Ok.ensures.fits (left_missing (rows_over new.pool g) ts) (lacking_left (rows_over old g) xs) (left_answers (rows_over new.pool g) ts)
-        (left_products (rows_over old g) xs)
+    (left_products (rows_over old g) xs)
     (left_lacks old new.pool grown g known ts xs c.in-Ok.ensures.terms) (left_sum old new.pool grown g known ts xs c.in-Ok.ensures.terms) c.left_lines.result
-        c.left_lines.ensures.given
+    c.left_lines.ensures.given
 
 pub returns-clause-refusal : goal.returns-clause-refusal
 returns-clause-refusal c =
@@ -57,9 +57,9 @@ returns-clause-refusal c =
     let grown = c.in-Ok.ensures.grown.pool in
     let known = c.requires.rows.known in
     refused_is new.pool xs c.in-Ok.ensures.fits (left_missing (rows_over new.pool g) ts) (lacking_left (rows_over old g) xs) (left_answers (rows_over new.pool g) ts)
-        (left_products (rows_over old g) xs)
+    (left_products (rows_over old g) xs)
     (left_lacks old new.pool grown g known ts xs c.in-Ok.ensures.terms) (left_sum old new.pool grown g known ts xs c.in-Ok.ensures.terms) c.left_lines.result
-        c.left_lines.ensures.refusal
+    c.left_lines.ensures.refusal
 
 pub returns-clause-counted : goal.returns-clause-counted
 returns-clause-counted c = asked_once c.args.tables.now c.coproduct.new.self c.args.id.0 c.args.work.now.tables c.coproduct.new.work.tables c.in-Ok.ensures.counted

@@ -17,7 +17,7 @@ returns-in-Err-clause-refusal c =
     let xs = recentring_of old c.args.id.0 in
     let fs = rows_over old c.args.f.now.rows in
     recentring_refused c.recentre.new.pool xs (lacking_right fs xs) (size_of (right_products fs xs)) c.in-Err.e c.recentring_refusal.result c.recentring_refusal.ensures
-        c.in-Err.ensures.refusal
+    c.in-Err.ensures.refusal
 
 pub right_lines-requires-clause-rows : goal.right_lines-requires-clause-rows
 right_lines-requires-clause-rows c = known_grown c.args.pool.now c.recentre.new.pool c.args.f.now.rows c.in-Ok.ensures.grown c.requires.rows.known
@@ -27,7 +27,7 @@ returns-clause-lines c =
     let old = c.args.pool.now in
     let new = c.recentre.new.pool in
     let sums = right_sum old new c.in-Ok.ensures.grown c.args.f.now.rows c.requires.rows.known (right_terms_in new c.in-Ok.terms.now) (recentring_of old c.args.id.0)
-        c.in-Ok.ensures.terms in
+    c.in-Ok.ensures.terms in
     subst (λ (ps : List (Plain × ℤ)). IfOk c.right_lines.result (λ v. IsSumOf tree_order ps (lines_over new v.items))) sums c.right_lines.ensures.sum
 
 pub returns-clause-given : goal.returns-clause-given
@@ -40,7 +40,7 @@ returns-clause-given c =
     let grown = c.in-Ok.ensures.grown in
     let known = c.requires.rows.known in
     given_is new xs c.in-Ok.ensures.range (right_missing (rows_over new f) ts) (lacking_right (rows_over old f) xs) (right_answers (rows_over new f) ts) (right_products
-        (rows_over old f) xs)
+    (rows_over old f) xs)
     (right_lacks old new grown f known ts xs c.in-Ok.ensures.terms) (right_sum old new grown f known ts xs c.in-Ok.ensures.terms) c.right_lines.result c.right_lines.ensures.given
 
 pub returns-clause-refusal : goal.returns-clause-refusal
@@ -53,5 +53,5 @@ returns-clause-refusal c =
     let grown = c.in-Ok.ensures.grown in
     let known = c.requires.rows.known in
     refused_is new xs c.in-Ok.ensures.range (right_missing (rows_over new f) ts) (lacking_right (rows_over old f) xs) (right_answers (rows_over new f) ts) (right_products
-        (rows_over old f) xs)
+    (rows_over old f) xs)
     (right_lacks old new grown f known ts xs c.in-Ok.ensures.terms) (right_sum old new grown f known ts xs c.in-Ok.ensures.terms) c.right_lines.result c.right_lines.ensures.refusal

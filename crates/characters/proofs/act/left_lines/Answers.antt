@@ -16,7 +16,7 @@ returns-clause-given c =
     let gs = rows_over b.pool g in
     let slice = c.as_slice.result.now in
     let asked : map (asked_in b.pool) slice ≡ map left_question (terms_in (grove_of b) c.args.terms.now) = ap (map (asked_in b.pool)) c.as_slice.ensures.value ∙
-        c.in_ok-asked.ensures.questions in
+    c.in_ok-asked.ensures.questions in
     subst (λ (qs : List Question). OnOk c.lines.result ((missing gs gs qs ≡ []) × (size_of (answers gs gs qs) < overflow))) asked
     (subst (λ (p : Content). OnOk c.lines.result ((missing_in p g g slice ≡ []) × (size_of (answers_in p g g slice) < overflow))) c.pool.ensures c.lines.ensures.given)
 
@@ -27,6 +27,6 @@ returns-clause-refusal c =
     let gs = rows_over b.pool g in
     let slice = c.as_slice.result.now in
     let asked : map (asked_in b.pool) slice ≡ map left_question (terms_in (grove_of b) c.args.terms.now) = ap (map (asked_in b.pool)) c.as_slice.ensures.value ∙
-        c.in_ok-asked.ensures.questions in
+    c.in_ok-asked.ensures.questions in
     subst (λ (qs : List Question). IfErr c.lines.result (IsNotGiven b.pool (missing gs gs qs) (size_of (answers gs gs qs)))) asked
     (subst (λ (p : Content). IfErr c.lines.result (IsNotGiven p (missing_in p g g slice) (size_of (answers_in p g g slice)))) c.pool.ensures c.lines.ensures.refusal)

@@ -31,4 +31,4 @@ loop-row-preserved c =
     let r = get_or items i blank in
     let known = subst (λ (rs : List CharacterRow). AreKnownRows c.args.pool.now rs) (sym c.as_slice-row-items.ensures) c.requires.rows in
     row_further c.args.pool.now c.laws.ensures items known c.args.id.0 i r c.requires.known lt (get_or_default items i blank r lt) _ (sym c.eq.ensures ∙ c.if-eq.false)
-        c.loop-row.invariant
+    c.loop-row.invariant

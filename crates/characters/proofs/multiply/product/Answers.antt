@@ -18,7 +18,7 @@ returns-in-Err-clause-refusal c =
     let gs = rows_over old.pool c.args.g.now.rows in
     let hs = rows_over old.pool c.args.h.now.rows in
     coproduct_refused c.coproduct.new.self.pool xs (lacking_both gs hs xs) (size_of (products gs hs xs)) c.in-Err.e c.extraction_refusal.result c.extraction_refusal.ensures
-        c.in-Err.ensures.refusal
+    c.in-Err.ensures.refusal
 
 pub returns-in-Err-clause-counted : goal.returns-in-Err-clause-counted
 returns-in-Err-clause-counted c = inl c.in-Err.ensures.counted
@@ -52,7 +52,7 @@ returns-clause-given c =
     let known_h = c.requires.second.known in
     given_is new.pool xs c.in-Ok.ensures.fits (both_missing (rows_over new.pool g) (rows_over new.pool h) ts) (lacking_both (rows_over old g) (rows_over old h) xs)
     (both_answers (rows_over new.pool g) (rows_over new.pool h) ts) (products (rows_over old g) (rows_over old h) xs) (both_lacks old new.pool grown g known_g h known_h ts xs
-        c.in-Ok.ensures.terms)
+    c.in-Ok.ensures.terms)
     (both_sum old new.pool grown g known_g h known_h ts xs c.in-Ok.ensures.terms) c.sum_over.result c.sum_over.ensures.given
 
 pub returns-clause-refusal : goal.returns-clause-refusal
@@ -68,7 +68,7 @@ returns-clause-refusal c =
     let known_h = c.requires.second.known in
     refused_is new.pool xs c.in-Ok.ensures.fits (both_missing (rows_over new.pool g) (rows_over new.pool h) ts) (lacking_both (rows_over old g) (rows_over old h) xs)
     (both_answers (rows_over new.pool g) (rows_over new.pool h) ts) (products (rows_over old g) (rows_over old h) xs) (both_lacks old new.pool grown g known_g h known_h ts xs
-        c.in-Ok.ensures.terms)
+    c.in-Ok.ensures.terms)
     (both_sum old new.pool grown g known_g h known_h ts xs c.in-Ok.ensures.terms) c.sum_over.result c.sum_over.ensures.refusal
 
 pub returns-clause-counted : goal.returns-clause-counted

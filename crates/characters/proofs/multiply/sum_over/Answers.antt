@@ -19,7 +19,7 @@ returns-clause-given c =
     let hs = rows_over b.pool h in
     let slice = c.as_slice.result.now in
     let asked : map (asked_in b.pool) slice ≡ map question (terms_in (grove_of b) c.args.terms.now) = ap (map (asked_in b.pool)) c.as_slice.ensures.value ∙
-        c.in_ok-asked.ensures.questions in
+    c.in_ok-asked.ensures.questions in
     subst (λ (qs : List Question). OnOk c.sum.result ((missing gs hs qs ≡ []) × (size_of (answers gs hs qs) < overflow))) asked
     (subst (λ (p : Content). OnOk c.sum.result ((missing_in p g h slice ≡ []) × (size_of (answers_in p g h slice) < overflow))) c.pool.ensures c.sum.ensures.given)
 
@@ -32,7 +32,7 @@ returns-clause-refusal c =
     let hs = rows_over b.pool h in
     let slice = c.as_slice.result.now in
     let asked : map (asked_in b.pool) slice ≡ map question (terms_in (grove_of b) c.args.terms.now) = ap (map (asked_in b.pool)) c.as_slice.ensures.value ∙
-        c.in_ok-asked.ensures.questions in
+    c.in_ok-asked.ensures.questions in
     subst (λ (qs : List Question). IfErr c.sum.result (IsNotGiven b.pool (missing gs hs qs) (size_of (answers gs hs qs)))) asked
     (subst (λ (p : Content). IfErr c.sum.result (IsNotGiven p (missing_in p g h slice) (size_of (answers_in p g h slice)))) c.pool.ensures c.sum.ensures.refusal)
 
@@ -45,6 +45,6 @@ returns-clause-sum c =
     let hs = rows_over b.pool h in
     let slice = c.as_slice.result.now in
     let asked : map (asked_in b.pool) slice ≡ map question (terms_in (grove_of b) c.args.terms.now) = ap (map (asked_in b.pool)) c.as_slice.ensures.value ∙
-        c.in_ok-asked.ensures.questions in
+    c.in_ok-asked.ensures.questions in
     subst (λ (qs : List Question). IfOk c.sum.result (λ z. z ≡ sum_of (answers gs hs qs))) asked
     (subst (λ (p : Content). IfOk c.sum.result (λ z. z ≡ sum_of (answers_in p g h slice))) c.pool.ensures c.sum.ensures.sum)

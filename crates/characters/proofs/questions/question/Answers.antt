@@ -25,4 +25,4 @@ returns-clause-question c =
     let fits : SFits w128 z = search rules in
     let named : numbers ids ≡ forest_at b.forests f = rw c.forests.ensures at c.trees.ensures in
     question_is (tree_at b.pool c.args.term.now.quotient.0) (tree_at b.pool c.args.term.now.quotient.0 ∷ []) _ z _ _ (to_z-of_z w128 z fits) (trees_by_number b.pool ids
-        (forest_at b.forests f) named)
+    (forest_at b.forests f) named)

@@ -10,4 +10,4 @@ pub returns-clause-sorted : goal.returns-clause-sorted
 returns-clause-sorted c =
     let p = c.args.pool.now in
     c.sort_unstable_by.ensures.sorted (λ s t. is_lt (key_order p s t)) (ranks_by (id_order_total p.trees) (λ (t : TreeId × ℤ). t.0.0)) (always_returns_same _ _ _ (λ a r f k.
-        search rules))
+    search rules))

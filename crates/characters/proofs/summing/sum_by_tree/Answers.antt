@@ -25,7 +25,7 @@ returns-clause-sum c =
     if_ok_map _ _ c.lines_of.result
     (λ v e.
     lines_are_sum p eq-value.it (λ i j a b. same_numbers p c.laws.ensures i.0 j.0 a b) ts us vs v.items c.requires.known c.sort_terms.ensures.same c.sort_terms.ensures.sorted
-        summed
+    summed
     (e ∙ ap (map line_of) c.as_slice-2.ensures.value))
     c.lines_of.ensures
 
@@ -39,6 +39,6 @@ returns-clause-known c =
     if_ok_map _ _ c.lines_of.result
     (λ v e.
     lines_are_known p eq-value.it (λ i j a b. same_numbers p c.laws.ensures i.0 j.0 a b) ts us vs v.items c.requires.known c.sort_terms.ensures.same c.sort_terms.ensures.sorted
-        summed
+    summed
     (e ∙ ap (map line_of) c.as_slice-2.ensures.value))
     c.lines_of.ensures
