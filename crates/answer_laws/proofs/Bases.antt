@@ -1,4 +1,5 @@
--- An equation has at most one answer where the rule with which it begins has at most one; its normal rule is refused in one way.
+-- An equation has at most one answer where the rule with which it begins has at most one; its
+-- normal rule is refused in one way.
 use Rattle.std.proofs.Common.{◌≡◌, ℕ, zero, suc, ◌<◌, ◌++◌, Bool, false, true≢false, List, [], ◌∷◌, length, get_or, Result, Err, inl, inr, refl, sym, ap, ◌∙◌, subst, arith}
 use Rattle.std.specs.List.{prefix_len}
 use Rattle.std.proofs.lemmas.List.Sums.{prefix_len_stops}
@@ -41,7 +42,9 @@ module _ (eq : Equation) where
   not_both rows row hold there fails = true≢false (sym (hold row fails.0 there fails.1) ∙ fails.2)
 
   -- the first row that fails
-  one_row : (rows others after behind : List RuleRow) (row other : RuleRow) → rows ++ row ∷ after ≡ others ++ other ∷ behind → HoldAll eq rows → HoldAll eq others → Fails row → Fails other → row ≡ other
+  one_row : (rows others after behind : List RuleRow) (row other : RuleRow) →
+      rows ++ row ∷ after ≡ others ++ other ∷ behind → HoldAll eq rows → HoldAll eq others →
+      Fails row → Fails other → row ≡ other
   one_row [] [] after behind row other same hold held fails failed = cc
   one_row [] (o ∷ others) after behind row other same hold held fails failed =
       let first : row ≡ o = cc in

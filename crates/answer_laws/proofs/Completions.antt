@@ -26,9 +26,13 @@ use Rattle.answer_laws.proofs.Texts.{tree_list_one}
 
 -- the laws of the completion that are needed
 pub record CompletionLaws : Type 0 where
-  pub one : (eq : Equation) (base rule other : Rule) (i j : ℕ) → IsEquation eq → IsCompletion eq base i rule → IsCompletion eq base j other → (i ≡ j) × (rule ≡ other)
-  pub fault : (eq : Equation) (base : Rule) (i j : ℕ) (f g : StageFault) → IsEquation eq → IsStageFault eq base i f → IsStageFault eq base j g → (i ≡ j) × (f ≡ g)
-  pub no_fault : (eq : Equation) (base rule : Rule) (i j : ℕ) (f : StageFault) → IsEquation eq → IsReached eq base i rule → IsNextStage eq rule rule → IsListable eq rule → node_count rule ≤ 2000 → IsStageFault eq base j f → ⊥
+  pub one : (eq : Equation) (base rule other : Rule) (i j : ℕ) → IsEquation eq →
+      IsCompletion eq base i rule → IsCompletion eq base j other → (i ≡ j) × (rule ≡ other)
+  pub fault : (eq : Equation) (base : Rule) (i j : ℕ) (f g : StageFault) → IsEquation eq →
+      IsStageFault eq base i f → IsStageFault eq base j g → (i ≡ j) × (f ≡ g)
+  pub no_fault : (eq : Equation) (base rule : Rule) (i j : ℕ) (f : StageFault) → IsEquation eq →
+      IsReached eq base i rule → IsNextStage eq rule rule → IsListable eq rule →
+      node_count rule ≤ 2000 → IsStageFault eq base j f → ⊥
 
 whole_list_one : (eq : Equation) (rule : Rule) (ts us : List Plain) → IsWholeList eq rule ts → IsWholeList eq rule us → ts ≡ us
 whole_list_one eq rule ts us h k =
@@ -45,14 +49,16 @@ first_zero_one eq rule None (Some t) h k = absurd (h t k.0)
 first_zero_one eq rule (Some s) None h k = absurd (k s h.0)
 first_zero_one eq rule (Some s) (Some t) h k = ap Some (neither_greater s t (tree_order s t) refl (h.1 t k.0) (k.1 s h.0))
 
-lists_one : (c : CompletedRule) (r s : Result (List ℕ) Refusal) → IsEquation c.eq → ListsTrees c r → ListsTrees c s → r ≡ s
-lists_one c r s equation h k = h.2 ∙ ap Ok (tree_list_one c.eq.types equation.types c.trees h.0 k.0 h.1 k.1) ∙ sym k.2
+lists_one : (c : CompletedRule) (r s : Result (List ℕ) Refusal) → IsEquation c.eq → IsWholeList c.eq c.rule c.trees → ListsTrees c r → ListsTrees c s → r ≡ s
+lists_one c r s equation whole h k = h.2 ∙ ap Ok (tree_list_one c.eq.types equation.types c.trees h.0 k.0 h.1 k.1) ∙ sym k.2
 
 module _ {T : Type 0} (laws : CompletionLaws) (answers : CompletedRule → Result T Refusal → Type 0)
-    (one : (c : CompletedRule) (r s : Result T Refusal) → IsEquation c.eq → answers c r → answers c s → r ≡ s) where
-  unless_zero_one : (ty : Types) (zero : Option Plain) (c : CompletedRule) (r s : Result T Refusal) → IsEquation c.eq → IsUnlessZero ty zero (answers c) r → IsUnlessZero ty zero (answers c) s → r ≡ s
-  unless_zero_one ty None c r s equation h k = one c r s equation h k
-  unless_zero_one ty (Some zero) c r s equation h k = h ∙ sym k
+    (one : (c : CompletedRule) (r s : Result T Refusal) → IsEquation c.eq → IsWholeList c.eq c.rule c.trees → answers c r → answers c s → r ≡ s) where
+  unless_zero_one : (ty : Types) (zero : Option Plain) (c : CompletedRule) (r s : Result T Refusal) →
+      IsEquation c.eq → IsWholeList c.eq c.rule c.trees → IsUnlessZero ty zero (answers c) r →
+      IsUnlessZero ty zero (answers c) s → r ≡ s
+  unless_zero_one ty None c r s equation whole h k = one c r s equation whole h k
+  unless_zero_one ty (Some zero) c r s equation whole h k = h ∙ sym k
 
   module _ (eq : Equation) (equation : IsEquation eq) (base : Rule) where
     abbrev with_trees : Rule → List Plain → CompletedRule
@@ -71,7 +77,7 @@ module _ {T : Type 0} (laws : CompletionLaws) (answers : CompletedRule → Resul
         let of_rule = subst (λ (rule : Rule). IsUnlessZero eq.types h.zero (answers (with_trees rule h.trees)) r) same h.answer in
         let of_trees = subst (λ (ts : List Plain). IsUnlessZero eq.types h.zero (answers (with_trees k.rule ts)) r) trees of_rule in
         let answer = subst (λ (zero : Option Plain). IsUnlessZero eq.types zero (answers (with_trees k.rule k.trees)) r) zeros of_trees in
-        unless_zero_one eq.types k.zero (with_trees k.rule k.trees) r s equation answer k.answer
+        unless_zero_one eq.types k.zero (with_trees k.rule k.trees) r s equation k.whole answer k.answer
 
     -- a completion that is reached is not refused
     not_refused : (r s : Result T Refusal) → node_count base ≤ 2000 → IsCompleted answers eq base r → IsStageRefused eq base s → ⊥
@@ -87,7 +93,7 @@ module _ {T : Type 0} (laws : CompletionLaws) (answers : CompletedRule → Resul
   for_equation_one : (eq : Equation) (r s : Result T Refusal) → IsEquation eq → IsForEquation answers eq r → IsForEquation answers eq s → r ≡ s
   for_equation_one eq r s equation = one_for_base eq equation (IsForCompletion answers eq) (λ rule a b base. for_completion_one eq equation rule a b base.small) r s
 
-  for_completed_one : (file : List ℕ) (r s : Result T Refusal) → IsForCompleted answers file r → IsForCompleted answers file s → r ≡ s
+  pub for_completed_one : (file : List ℕ) (r s : Result T Refusal) → IsForCompleted answers file r → IsForCompleted answers file s → r ≡ s
   for_completed_one = one_for_file (IsForEquation answers) for_equation_one
 
 pub trees_one : CompletionLaws → (file : List ℕ) (r s : Result (List ℕ) Refusal) → IsTreesOf file r → IsTreesOf file s → r ≡ s

@@ -1,7 +1,15 @@
 mod Bases
+mod CharacterSums
 mod Checks
 mod Completions
+mod Details
+mod FormalSums
 mod Given
+mod GivenTexts
 mod OfFiles
+mod Ranges
+mod Reports
+mod SameValues
+mod Samples
 mod SmallStages
 mod Texts

@@ -21,7 +21,9 @@ at_most_or_more (suc m) (suc n) = elim (at_most_or_more m n) [ inl le ↦ inl (o
 
 module _ (eq : Equation) (equation : IsEquation eq) where
   -- each kernel has one row
-  in_row : (rule : Rule) → IsRule eq rule → (row : RuleRow) → IsIn row rule.rows → (es : List EdgeLabel) → IsInKernelRow rule row.kernel.0 es → (n : NodeType) × IsIn n row.nodes × (labels n ≡ es)
+  in_row : (rule : Rule) → IsRule eq rule → (row : RuleRow) → IsIn row rule.rows →
+      (es : List EdgeLabel) → IsInKernelRow rule row.kernel.0 es →
+      (n : NodeType) × IsIn n row.nodes × (labels n ≡ es)
   in_row rule is_rule row there es h =
       let n = from_kernel_row eq rule equation is_rule row.kernel.0 es h in
       (n.0, subst (IsIn n.0) (nodes_of_row eq rule equation is_rule row there) n.1, n.2)

@@ -19,13 +19,13 @@ use Rattle.normal_rule.specs.Text.{node_type_text}
 use Rattle.workbench_core.specs.CheckText.{IsSideText, IsLine, AreLines, IsRowText, AreRowTexts, IsCheckText, line_text}
 use Rattle.workbench_core.specs.TreeList.{IsRow, AreRows, IsTreeList, row_text}
 
-degree_text_one : (d : Degree) (den : ℕ) (text other : List ℕ) → 0 < den → IsDegreeText d den text → IsDegreeText d den other → text ≡ other
+pub degree_text_one : (d : Degree) (den : ℕ) (text other : List ℕ) → 0 < den → IsDegreeText d den text → IsDegreeText d den other → text ≡ other
 degree_text_one d den text other above h k =
     let plain : h.0 ≡ k.0 = lowest_form d.a den h.0 k.0 above h.2 k.2 in
     let with_k : h.1 ≡ k.1 = lowest_form d.b den h.1 k.1 above h.3 k.3 in
     h.4 ∙ ap (λ (a : Fraction). degree_text a h.1) plain ∙ ap (λ (b : Fraction). degree_text k.0 b) with_k ∙ sym k.4
 
-den_is_above : (ty : Types) → AreTypes ty → 0 < unsigned_abs ty.units.den
+pub den_is_above : (ty : Types) → AreTypes ty → 0 < unsigned_abs ty.units.den
 den_is_above ty types = let above = types.den_above in omega (arith, ints, above)
 
 module _ (eq : Equation) (types : AreTypes eq.types) where

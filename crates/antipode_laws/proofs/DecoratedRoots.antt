@@ -66,7 +66,9 @@ decorated-canon t = ap (λ (m : List ℕ). not (is_zero m)) (root-canon t)
 
 module _ (good : Plain → Bool) (w : List ℕ) where
   -- what is left at the root, and what is taken
-  root_shared : {b : Bool} {t : Plain} {e : Entry} → IsMade good w b t e → is_zero (root_of e.part) ≡ true → is_zero (root_of e.quotient) ≡ true → is_zero (root_of t) ≡ true
+  root_shared : {b : Bool} {t : Plain} {e : Entry} → IsMade good w b t e →
+      is_zero (root_of e.part) ≡ true → is_zero (root_of e.quotient) ≡ true →
+      is_zero (root_of t) ≡ true
   root_shared (taken n a i) h k = subst (λ (m : List ℕ). is_zero m ≡ true) (plus-minus n a i) (zero-plus a (minus_of n a) h k)
   root_shared (idle n) h k = k
   root_shared (whole c) h k = k
@@ -83,7 +85,8 @@ module _ (good : Plain → Bool) (w : List ℕ) where
   root_left (over_idle s k p i m n) q = root_left n q
   root_left (over_component s k p i m o g n) q = root_left n q
 
-  one_decorated : (t : Plain) (e : Entry) → IsMade good w true t e → is_decorated t ≡ true → (fs : List Plain) → has_some is_decorated (e.part ∷ fs, e.quotient) ≡ true
+  one_decorated : (t : Plain) (e : Entry) → IsMade good w true t e → is_decorated t ≡ true →
+      (fs : List Plain) → has_some is_decorated (e.part ∷ fs, e.quotient) ≡ true
   one_decorated t e m h fs =
       (elim (is_zero (root_of e.quotient)) as (λ b. is_zero (root_of e.quotient) ≡ b → not b || (is_decorated e.part || list_any is_decorated fs) ≡ true) [
         | true ↦ λ q. (elim (is_zero (root_of e.part)) as (λ b. is_zero (root_of e.part) ≡ b → not b || list_any is_decorated fs ≡ true) [

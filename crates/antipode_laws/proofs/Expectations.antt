@@ -73,7 +73,9 @@ module _ (ty : Types) (a c : Plain → Weighed) where
       ∙ ap (λ (ts : List PlainTerm). products ts (expectation_terms ty (tree_terms x.0.1))) (expected-forest x.0.0 h)
       ∙ ap (products (forest_terms c x.0.0)) (expected_quotient ty x.0.1))
 
-  expected-sum : (xs : List (Extracted × ℕ)) → AllByRecursion (λ (x : Extracted × ℕ). AllByRecursion IsExpected x.0.0) xs → expectation_terms ty (negated_sum tree_terms a xs) ≡ negated_sum (expected ty) c xs
+  expected-sum : (xs : List (Extracted × ℕ)) →
+      AllByRecursion (λ (x : Extracted × ℕ). AllByRecursion IsExpected x.0.0) xs →
+      expectation_terms ty (negated_sum tree_terms a xs) ≡ negated_sum (expected ty) c xs
   expected-sum [] h = refl
   expected-sum (x ∷ xs) h =
       expected-append ty (negated tree_terms a x) (negated_sum tree_terms a xs)

@@ -1,4 +1,5 @@
--- A tree with an edge whose kernel integrates what stands above it to 0 has in each term a tree with such an edge.
+-- A tree with an edge whose kernel integrates what stands above it to 0 has in each term a tree
+-- with such an edge.
 use Rattle.std.proofs.Common.{◌≡◌, ℕ, ◌*◌, ◌≤◌, ◌⊎◌, inl, inr, Bool, true, false, cond, ◌||◌, List, [], ◌∷◌, ◌++◌, if◌then◌else◌, refl, sym, ap, ◌∙◌, subst, arith, Option, Some, None}
 use Rattle.std.specs.List.{list_any}
 use Rattle.std.specs.Ordering.{is_gt}
@@ -205,7 +206,9 @@ module _ (ty : Types) where
     closed_integrated t e (inl m) h = found_some e (idle_found e (no_edge good w m refl) (found m h))
     closed_integrated t e (inr m) h = found_some e (component_found e m.1 (found m.0 h))
 
-pub integrated_edge : (ty : Types) (t : Plain) (k : Extracted) → IsIn k (keys (extraction_terms ty t)) → has_integrated ty t ≡ true → has_some (has_integrated ty) k ≡ true
+pub integrated_edge : (ty : Types) (t : Plain) (k : Extracted) →
+    IsIn k (keys (extraction_terms ty t)) → has_integrated ty t ≡ true →
+    has_some (has_integrated ty) k ≡ true
 integrated_edge ty t k h d =
     let from = extraction_entry ty t k h in
     subst (λ (l : Extracted). has_some (has_integrated ty) l ≡ true) from.1.1

@@ -1,4 +1,5 @@
--- Masses of the twisted antipode: none is 0, and one that is out of range makes the masses above it so.
+-- Masses of the twisted antipode: none is 0, and one that is out of range makes the masses above it
+-- so.
 use Rattle.std.proofs.Common.{◌≡◌, ℕ, zero, suc, ◌*◌, ◌<◌, ◌≤◌, inl, inr, sum, true, false, cond, fold, List, [], ◌∷◌, map, refl, sym, ap, ◌∙◌, subst, arith, mul-pos, None}
 use Rattle.std.specs.List.{AllByRecursion}
 use Rattle.ordered_lists.specs.Members.{IsIn}
@@ -92,14 +93,17 @@ module _ (ty : Types) (a : Plain → Weighed) where
   mass_above solves t typed = subst (λ (w : Weighed). 0 < w.mass) (sym (solves t typed)) (value_above t)
 
   -- one factor that is out of range
-  forest_large : IsAntipode ty a → (fs : List Plain) (f : Plain) → AllByRecursion (HasTypes ty) fs → IsIn f fs → overflow ≤ (a f).mass → overflow ≤ forest_mass a fs
+  forest_large : IsAntipode ty a → (fs : List Plain) (f : Plain) → AllByRecursion (HasTypes ty) fs →
+      IsIn f fs → overflow ≤ (a f).mass → overflow ≤ forest_mass a fs
   forest_large solves fs f typed i h =
       let each : AllByRecursion (λ m. 0 < m) (map (λ g. (a g).mass) fs) = all_mapped (HasTypes ty) (λ m. 0 < m) (λ g. (a g).mass) fs (λ g u. mass_above solves g u) typed in
       let least = product_least (a f).mass (map (λ g. (a g).mass) fs) each (in_map (λ g. (a g).mass) f fs i) in
       let is = saturating_product_is (map (λ g. (a g).mass) fs) in
       omega (arith, h, least, is)
 
-  sum_large : IsAntipode ty a → (t : Plain) (x : Extracted × ℕ) (f : Plain) → HasTypes ty t → IsIn x (other_terms ty t) → IsIn f x.0.0 → overflow ≤ (a f).mass → overflow ≤ mass_sum tree_terms a (other_terms ty t)
+  sum_large : IsAntipode ty a → (t : Plain) (x : Extracted × ℕ) (f : Plain) → HasTypes ty t →
+      IsIn x (other_terms ty t) → IsIn f x.0.0 → overflow ≤ (a f).mass →
+      overflow ≤ mass_sum tree_terms a (other_terms ty t)
   sum_large solves t x f typed listed i h =
       let parts = parts_of_term ty t x typed listed in
       let forest = forest_large solves x.0.0 f (all_weaker (IsPart ty t) (HasTypes ty) x.0.0 (λ g p. p.typed) parts) i h in
@@ -120,7 +124,9 @@ module _ (ty : Types) (a : Plain → Weighed) where
         | false ↦ λ e. refl
       ]) refl
 
-  pub overflow_above : IsAntipode ty a → (t : Plain) (x : Extracted × ℕ) (f : Plain) → HasTypes ty t → IsIn x (other_terms ty t) → IsIn f x.0.0 → overflow ≤ (a f).mass → overflow ≤ (a t).mass
+  pub overflow_above : IsAntipode ty a → (t : Plain) (x : Extracted × ℕ) (f : Plain) →
+      HasTypes ty t → IsIn x (other_terms ty t) → IsIn f x.0.0 → overflow ≤ (a f).mass →
+      overflow ≤ (a t).mass
   overflow_above solves t x f typed listed i h =
       let value : overflow ≤ (cond (is_empty_tree t) unit (from_smaller ty tree_terms a t)).mass =
       subst (λ b. overflow ≤ (cond b unit (from_smaller ty tree_terms a t)).mass) (sym (not_empty t x f typed listed i))

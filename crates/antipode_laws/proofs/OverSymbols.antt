@@ -1,4 +1,5 @@
--- All symbols of the values of a solution are of one kind, where those of quotients and of the values that are held are.
+-- All symbols of the values of a solution are of one kind, where those of quotients and of the
+-- values that are held are.
 use Rattle.std.proofs.Common.{◌≡◌, ℕ, pos, neg_ℤ, true, false, cond, List, [], ◌∷◌, sym, subst, Option, Some, None, refl}
 use Rattle.std.specs.List.{AllByRecursion}
 use Rattle.ordered_lists.specs.Members.{IsIn}
@@ -41,12 +42,15 @@ module _ (P : PlainSymbol → Type 0) (ty : Types) (of_quotient : Plain → List
       (over-times_all P (neg_ℤ (pos x.1)) (products (forest_terms a x.0.0) (of_quotient x.0.1))
       (over-products P (forest_terms a x.0.0) (of_quotient x.0.1) (over-forest x.0.0 h.0.forest) h.0.quotient)) (over-sum xs h.1)
 
-  over-value : (h : Option Weighed) (t : Plain) → ((w : Weighed) → h ≡ Some w → AreOver P w.terms) → AllByRecursion IsOverTerm (other_terms ty t) → AreOver P (value_at ty of_quotient h a t).terms
+  over-value : (h : Option Weighed) (t : Plain) → ((w : Weighed) → h ≡ Some w → AreOver P w.terms) →
+      AllByRecursion IsOverTerm (other_terms ty t) → AreOver P (value_at ty of_quotient h a t).terms
   over-value (Some w) t given terms = given w refl
   over-value None t given terms =
       elim (is_empty_tree t) as (λ b. AreOver P (cond b unit (from_smaller ty of_quotient a t)).terms) [ true ↦ (tt, tt) | false ↦ over-sum (other_terms ty t) terms ]
 
-  pub over_solution : ((q : Plain) → HasTypes ty q → AreOver P (of_quotient q)) → (held : Plain → Option Weighed) → ((t : Plain) (w : Weighed) → held t ≡ Some w → AreOver P w.terms) →
+  pub over_solution : ((q : Plain) → HasTypes ty q → AreOver P (of_quotient q)) →
+      (held : Plain → Option Weighed) →
+      ((t : Plain) (w : Weighed) → held t ≡ Some w → AreOver P w.terms) →
       IsSolution ty of_quotient held a → (t : Plain) → HasTypes ty t → AreOver P (a t).terms
   over_solution quotients held given solves =
       by_size (λ t. HasTypes ty t → Over t)

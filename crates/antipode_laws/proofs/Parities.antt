@@ -31,7 +31,8 @@ sums_are : (i : ℕ) (t : Plain) → direction_sum (i - 1) t ≡ sum_in i t
 sums_are i (bare n) = refl
 sums_are i (graft k p c t) = omega (arith, sums_are i c, sums_are i t)
 
-pub odd_group : (ty : Types) (t : Plain) (k : Extracted) (g : ℕ) → IsIn k (keys (extraction_terms ty t)) → has_odd ty g t ≡ true → has_some (has_odd ty g) k ≡ true
+pub odd_group : (ty : Types) (t : Plain) (k : Extracted) (g : ℕ) →
+    IsIn k (keys (extraction_terms ty t)) → has_odd ty g t ≡ true → has_some (has_odd ty g) k ≡ true
 odd_group ty t k g h odd =
     let up = extraction_adds_up ty t k h in
     let all = types_add_up t k.0 k.1 up (of_group ty g) in
@@ -39,7 +40,9 @@ odd_group ty t k g h odd =
     let sum : total (λ s. noises_in ty s g) k.0 + noises_in ty k.1 g ≡ noises_in ty t g = omega (arith, all, forest, noises_are ty g k.1, noises_are ty g t) in
     some_odd (λ s. noises_in ty s g) k.0 k.1 (ap (λ (n : ℕ). n % 2) sum ∙ odd_is (noises_in ty t g) odd)
 
-pub odd_direction : (ty : Types) (t : Plain) (k : Extracted) (i : ℕ) → IsIn k (keys (extraction_terms ty t)) → has_odd_sum i t ≡ true → has_some (has_odd_sum i) k ≡ true
+pub odd_direction : (ty : Types) (t : Plain) (k : Extracted) (i : ℕ) →
+    IsIn k (keys (extraction_terms ty t)) → has_odd_sum i t ≡ true →
+    has_some (has_odd_sum i) k ≡ true
 odd_direction ty t k i h odd =
     let up = extraction_adds_up ty t k h in
     let all = directions_add_up t k.0 k.1 up (i - 1) in

@@ -20,7 +20,8 @@ use Rattle.antipode_laws.specs.Weighed.{Weighed, has_terms, forest_terms, forest
 use Rattle.antipode_laws.specs.Runs.{with_forest, quotient_sum, quotient_mass}
 
 -- the second factor of a product: a sum, a multiple
-products-sum : (m : List PlainSymbol) (ts us vs : List PlainTerm) → coefficient_of m (products ts (us ++ vs)) ≡ coefficient_of m (products ts us) +ℤ coefficient_of m (products ts vs)
+products-sum : (m : List PlainSymbol) (ts us vs : List PlainTerm) →
+    coefficient_of m (products ts (us ++ vs)) ≡ coefficient_of m (products ts us) +ℤ coefficient_of m (products ts vs)
 products-sum m [] us vs = refl
 products-sum m (t ∷ ts) us vs =
     let whole = coefficient_of-append m (products_with t (us ++ vs)) (products ts (us ++ vs)) in
@@ -67,12 +68,14 @@ module _ (of_quotient : Plain → List PlainTerm) (a : Plain → Weighed) (fs : 
   abbrev at : List PlainSymbol → List PlainTerm → ℤ
   at m ts = coefficient_of m (products F ts)
 
-  one_minus : (m : List PlainSymbol) (q : Plain × ℕ) → coefficient_of m (negated of_quotient a ((fs, q.0), q.1)) ≡ neg_ℤ (at m (times_all (pos q.1) (of_quotient q.0)))
+  one_minus : (m : List PlainSymbol) (q : Plain × ℕ) →
+      coefficient_of m (negated of_quotient a ((fs, q.0), q.1)) ≡ neg_ℤ (at m (times_all (pos q.1) (of_quotient q.0)))
   one_minus m q =
       coefficient_of-times_all (neg_ℤ (pos q.1)) m (products F (of_quotient q.0)) ∙ minus_times q.1 (at m (of_quotient q.0))
       ∙ ap neg_ℤ (sym (ap (coefficient_of m) (products-multiple (pos q.1) F (of_quotient q.0)) ∙ coefficient_of-times_all (pos q.1) m (products F (of_quotient q.0))))
 
-  run_minus : (m : List PlainSymbol) (qs : List (Plain × ℕ)) → coefficient_of m (negated_sum of_quotient a (with_forest fs qs)) ≡ neg_ℤ (at m (quotient_sum of_quotient qs))
+  run_minus : (m : List PlainSymbol) (qs : List (Plain × ℕ)) →
+      coefficient_of m (negated_sum of_quotient a (with_forest fs qs)) ≡ neg_ℤ (at m (quotient_sum of_quotient qs))
   run_minus m [] = ap (λ (ts : List PlainTerm). neg_ℤ (coefficient_of m ts)) (sym (products_none F))
     where
       products_none : (ts : List PlainTerm) → products ts [] ≡ []
@@ -84,7 +87,8 @@ module _ (of_quotient : Plain → List PlainTerm) (a : Plain → Weighed) (fs : 
       (at m (times_all (pos q.1) (of_quotient q.0))) (at m (quotient_sum of_quotient qs)) (at m (quotient_sum of_quotient (q ∷ qs))) (neg_ℤ (at m (quotient_sum of_quotient (q ∷ qs))))
       (one_minus m q) (run_minus m qs) (products-sum m F (times_all (pos q.1) (of_quotient q.0)) (quotient_sum of_quotient qs)) refl
 
-  pub run_terms : (qs : List (Plain × ℕ)) → HaveSameCoefficients (negated_sum of_quotient a (with_forest fs qs)) (times_all (neg_ℤ (pos 1)) (products F (quotient_sum of_quotient qs)))
+  pub run_terms : (qs : List (Plain × ℕ)) →
+      HaveSameCoefficients (negated_sum of_quotient a (with_forest fs qs)) (times_all (neg_ℤ (pos 1)) (products F (quotient_sum of_quotient qs)))
   run_terms qs = λ m. run_minus m qs ∙ sym (coefficient_of-times_all (neg_ℤ (pos 1)) m (products F (quotient_sum of_quotient qs)) ∙ minus_one (at m (quotient_sum of_quotient qs)))
 
   -- masses
@@ -122,7 +126,8 @@ module _ (of_quotient : Plain → List PlainTerm) (a : Plain → Weighed) (fs : 
       ∙ ap (λ (n : ℕ). saturating_times n (forest_mass a fs)) (sym (saturating_sum_is (map counted qs)))
 
 -- one run after the other
-pub sum_of_both : (of_quotient : Plain → List PlainTerm) (a : Plain → Weighed) (xs ys : List (Extracted × ℕ)) → negated_sum of_quotient a (xs ++ ys) ≡ negated_sum of_quotient a xs ++ negated_sum of_quotient a ys
+pub sum_of_both : (of_quotient : Plain → List PlainTerm) (a : Plain → Weighed) (xs ys : List (Extracted × ℕ)) →
+    negated_sum of_quotient a (xs ++ ys) ≡ negated_sum of_quotient a xs ++ negated_sum of_quotient a ys
 sum_of_both of_quotient a xs ys = flat_map-append (negated of_quotient a) xs ys
 
 pub sums_of_both : (ms ns : List ℕ) → saturating_sum (ms ++ ns) ≡ saturating_plus (saturating_sum ms) (saturating_sum ns)
@@ -137,8 +142,10 @@ sums_of_both ms ns =
     sum-append [] ns = omega arith
     sum-append (m ∷ ms) ns = omega (arith, sum-append ms ns, sum-cons m (ms ++ ns), sum-cons m ms)
 
-pub mass_of_both : (of_quotient : Plain → List PlainTerm) (a : Plain → Weighed) (xs ys : List (Extracted × ℕ)) → mass_sum of_quotient a (xs ++ ys) ≡ saturating_plus (mass_sum of_quotient a xs) (mass_sum of_quotient a ys)
+pub mass_of_both : (of_quotient : Plain → List PlainTerm) (a : Plain → Weighed) (xs ys : List (Extracted × ℕ)) →
+    mass_sum of_quotient a (xs ++ ys) ≡ saturating_plus (mass_sum of_quotient a xs) (mass_sum of_quotient a ys)
 mass_of_both of_quotient a xs ys = ap saturating_sum (map-append (term_mass of_quotient a) xs ys) ∙ sums_of_both (map (term_mass of_quotient a) xs) (map (term_mass of_quotient a) ys)
 
-pub quotient_sums_of_both : (of_quotient : Plain → List PlainTerm) (qs rs : List (Plain × ℕ)) → quotient_sum of_quotient (qs ++ rs) ≡ quotient_sum of_quotient qs ++ quotient_sum of_quotient rs
+pub quotient_sums_of_both : (of_quotient : Plain → List PlainTerm) (qs rs : List (Plain × ℕ)) →
+    quotient_sum of_quotient (qs ++ rs) ≡ quotient_sum of_quotient qs ++ quotient_sum of_quotient rs
 quotient_sums_of_both of_quotient qs rs = flat_map-append (λ (q : Plain × ℕ). times_all (pos q.1) (of_quotient q.0)) qs rs

@@ -86,7 +86,9 @@ module _ (of_quotient : Plain → List PlainTerm) (single : (q : Plain) → size
         | false ↦ λ e. rw (size, size_none (of_quotient x.0.1) e) (omega arith)
       ]) refl
 
-  within_sum : (xs : List (Extracted × ℕ)) → AllByRecursion (λ (x : Extracted × ℕ). AllByRecursion Within x.0.0) xs → saturated (size_of (negated_sum of_quotient a xs)) ≤ saturated (sum (map (term_mass of_quotient a) xs))
+  within_sum : (xs : List (Extracted × ℕ)) →
+      AllByRecursion (λ (x : Extracted × ℕ). AllByRecursion Within x.0.0) xs →
+      saturated (size_of (negated_sum of_quotient a xs)) ≤ saturated (sum (map (term_mass of_quotient a) xs))
   within_sum [] h = omega arith
   within_sum (x ∷ xs) h =
       let sizes = size_of-append (negated of_quotient a x) (negated_sum of_quotient a xs) in
@@ -95,7 +97,9 @@ module _ (of_quotient : Plain → List PlainTerm) (single : (q : Plain) → size
       let rest = within_sum xs h.1 in
       omega (arith, sizes, masses, first, rest)
 
-  within_value : (ty : Types) (t : Plain) → AllByRecursion (λ (x : Extracted × ℕ). AllByRecursion Within x.0.0) (other_terms ty t) → IsWithinMass (value_at ty of_quotient None a t)
+  within_value : (ty : Types) (t : Plain) →
+      AllByRecursion (λ (x : Extracted × ℕ). AllByRecursion Within x.0.0) (other_terms ty t) →
+      IsWithinMass (value_at ty of_quotient None a t)
   within_value ty t h =
       elim (is_empty_tree t) as (λ b. IsWithinMass (cond b unit (from_smaller ty of_quotient a t))) [
         | true ↦ omega arith
@@ -105,11 +109,16 @@ module _ (of_quotient : Plain → List PlainTerm) (single : (q : Plain) → size
         ]
       ]
 
-  within_at : (ty : Types) (h : Option Weighed) (t : Plain) → ((w : Weighed) → h ≡ Some w → IsWithinMass w) → AllByRecursion (λ (x : Extracted × ℕ). AllByRecursion Within x.0.0) (other_terms ty t) → IsWithinMass (value_at ty of_quotient h a t)
+  within_at : (ty : Types) (h : Option Weighed) (t : Plain) →
+      ((w : Weighed) → h ≡ Some w → IsWithinMass w) →
+      AllByRecursion (λ (x : Extracted × ℕ). AllByRecursion Within x.0.0) (other_terms ty t) →
+      IsWithinMass (value_at ty of_quotient h a t)
   within_at ty None t given parts = within_value ty t parts
   within_at ty (Some w) t given parts = given w refl
 
-  pub within_mass : (ty : Types) (held : Plain → Option Weighed) → ((t : Plain) (w : Weighed) → held t ≡ Some w → IsWithinMass w) → IsSolution ty of_quotient held a → (t : Plain) → HasTypes ty t → IsWithinMass (a t)
+  pub within_mass : (ty : Types) (held : Plain → Option Weighed) →
+      ((t : Plain) (w : Weighed) → held t ≡ Some w → IsWithinMass w) →
+      IsSolution ty of_quotient held a → (t : Plain) → HasTypes ty t → IsWithinMass (a t)
   within_mass ty held given solves =
       by_size (λ t. HasTypes ty t → IsWithinMass (a t))
       (λ t below typed.

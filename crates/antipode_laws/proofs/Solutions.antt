@@ -18,7 +18,8 @@ module _ (ty : Types) (of_quotient : Plain → List PlainTerm) (held : Plain →
       by_size (λ t. HasTypes ty t → a t ≡ b t)
       (λ t below typed. solves t typed ∙ same_value a b of_quotient ty (held t) t typed (λ f over small. below f small over) ∙ sym (also t typed))
 
-  -- the value of a tree, by so many steps down in the decorations; `fewer` gives that of trees with fewer edges
+  -- the value of a tree, by so many steps down in the decorations; `fewer` gives that of trees with
+  -- fewer edges
   abbrev within : (Plain → Weighed) → ℕ → Plain → Weighed
   within fewer zero t = value_at ty of_quotient (held t) fewer t
   within fewer (suc s) t = value_at ty of_quotient (held t) (λ f. elim (cases_lt (edge_count_of f) (edge_count_of t)) [ inl l ↦ fewer f | inr l ↦ within fewer s f ]) t
@@ -67,7 +68,8 @@ module _ (ty : Types) (of_quotient : Plain → List PlainTerm) (held : Plain →
   is_solution t typed = at_own t typed (by_size Solves solves t)
 
 -- a solution stays one where some of its own values are held as well
-pub held_values : (ty : Types) (of_quotient : Plain → List PlainTerm) (held more : Plain → Option Weighed) (a : Plain → Weighed) → IsSolution ty of_quotient held a →
+pub held_values : (ty : Types) (of_quotient : Plain → List PlainTerm) (held more : Plain → Option Weighed) (a : Plain → Weighed) →
+    IsSolution ty of_quotient held a →
     ((t : Plain) → HasTypes ty t → (more t ≡ held t) ⊎ (more t ≡ Some (a t))) → IsSolution ty of_quotient more a
 held_values ty of_quotient held more a solves extends t typed =
     elim (extends t typed) [

@@ -27,7 +27,8 @@ same_order s t h k =
     subst (λ (u : PlainSymbol). symbol_order u t ≡ symbol_order (expected_symbol u) (expected_symbol t)) (sym h.1)
     (subst (λ (v : PlainSymbol). symbol_order (tree h.0) v ≡ symbol_order (expectation h.0) (expected_symbol v)) (sym k.1) refl)
 
-map-with_symbol : (s : PlainSymbol) (m : List PlainSymbol) → IsTree s → AllByRecursion IsTree m → map expected_symbol (with_symbol s m) ≡ with_symbol (expected_symbol s) (map expected_symbol m)
+map-with_symbol : (s : PlainSymbol) (m : List PlainSymbol) → IsTree s → AllByRecursion IsTree m →
+    map expected_symbol (with_symbol s m) ≡ with_symbol (expected_symbol s) (map expected_symbol m)
 map-with_symbol s [] h k = refl
 map-with_symbol s (t ∷ m) h k =
     (elim (is_gt (symbol_order s t)) as
@@ -37,7 +38,9 @@ map-with_symbol s (t ∷ m) h k =
     ])
     ∙ ap (λ o. cond (is_gt o) (expected_symbol t ∷ with_symbol (expected_symbol s) (map expected_symbol m)) (expected_symbol s ∷ expected_symbol t ∷ map expected_symbol m)) (same_order s t h k.0)
 
-map-monomial_product : (m n : List PlainSymbol) → AllByRecursion IsTree m → AllByRecursion IsTree n → map expected_symbol (monomial_product m n) ≡ monomial_product (map expected_symbol m) (map expected_symbol n)
+map-monomial_product : (m n : List PlainSymbol) → AllByRecursion IsTree m →
+    AllByRecursion IsTree n →
+    map expected_symbol (monomial_product m n) ≡ monomial_product (map expected_symbol m) (map expected_symbol n)
 map-monomial_product [] n h k = refl
 map-monomial_product (s ∷ m) n h k =
     map-with_symbol s (monomial_product m n) h.0 (all-monomial_product IsTree m n h.1 k) ∙ ap (with_symbol (expected_symbol s)) (map-monomial_product m n h.1 k)
@@ -92,7 +95,9 @@ module _ (ty : Types) where
       ap (λ b. cond b [] (expects (term_product t u) ∷ []) ++ expectation_terms ty (products_with t us)) (any-monomial_product t.symbols u.symbols ∙ ap (λ b. b || has_vanishing ty u.symbols) h)
       ∙ none_with t us h
 
-  some_with : (t : PlainTerm) (us : List PlainTerm) → has_vanishing ty t.symbols ≡ false → IsOverTrees t → AreOverTrees us → expectation_terms ty (products_with t us) ≡ products_with (expects t) (expectation_terms ty us)
+  some_with : (t : PlainTerm) (us : List PlainTerm) → has_vanishing ty t.symbols ≡ false →
+      IsOverTrees t → AreOverTrees us →
+      expectation_terms ty (products_with t us) ≡ products_with (expects t) (expectation_terms ty us)
   some_with t [] h k l = refl
   some_with t (u ∷ us) h k l =
       ap (λ b. cond b [] (expects (term_product t u) ∷ []) ++ expectation_terms ty (products_with t us)) (any-monomial_product t.symbols u.symbols ∙ ap (λ b. b || has_vanishing ty u.symbols) h)
@@ -103,7 +108,8 @@ module _ (ty : Types) where
         | false ↦ ap (λ (m : List PlainSymbol). term (t.coefficient *ℤ u.coefficient) m ∷ products_with (expects t) (expectation_terms ty us)) (map-monomial_product t.symbols u.symbols k l.0)
       ])
 
-  pub expected-products : (ts us : List PlainTerm) → AreOverTrees ts → AreOverTrees us → expectation_terms ty (products ts us) ≡ products (expectation_terms ty ts) (expectation_terms ty us)
+  pub expected-products : (ts us : List PlainTerm) → AreOverTrees ts → AreOverTrees us →
+      expectation_terms ty (products ts us) ≡ products (expectation_terms ty ts) (expectation_terms ty us)
   expected-products [] us h k = refl
   expected-products (t ∷ ts) us h k =
       expected-append (products_with t us) (products ts us)

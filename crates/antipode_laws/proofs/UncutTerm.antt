@@ -1,4 +1,5 @@
--- The term of the cutting that cuts nothing: no tree in the forest, and the tree itself as the quotient.
+-- The term of the cutting that cuts nothing: no tree in the forest, and the tree itself as the
+-- quotient.
 use Rattle.std.proofs.Common.{◌≡◌, ℕ, ◌+◌, inl, inr, Bool, true, false, cond, not, List, [], ◌∷◌, ◌++◌, map, filter, refl, sym, ap, ◌∙◌, subst, Ordering, Less, Equal, Greater}
 use Rattle.std.specs.Ordering.{is_eq, is_gt}
 use Rattle.std.proofs.lemmas.Map.Lookups.{CmpEqualImpliesEq}

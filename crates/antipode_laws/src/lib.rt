@@ -1,4 +1,5 @@
-//! The twisted antipode and the constants, as definitions with their laws.
+//! The twisted antipode and the constants, as definitions with their laws. They stand apart from
+//! the calls that compute both, so that another way to compute leaves the laws as they are.
 #![tactic(auto)]
 
 mod laws;

@@ -1,4 +1,5 @@
-//! Canonical trees within the bounds, as elements of sorted lists and sets.
+//! Canonical trees within the bounds, as elements of sorted lists and sets. They stand apart,
+//! because the order laws of a type may not name lemmas of its own crate.
 #![tactic(auto)]
 
 ghost use Rattle.std.specs.Prelude.{◌≡◌, IfOk, IsOkUnless};
@@ -11,7 +12,8 @@ use std::alloc::Global;
 use std::cmp::Ordering;
 use std::marker::Model;
 
-/// A canonical tree with at most 24 edges and a decoration sum of at most 4,096. It is ordered by tree order, and equal to exactly the same trees.
+/// A canonical tree with at most 24 edges (`MOST_EDGES`) and a decoration sum of at most 4,096
+/// (`MOST_DECORATIONS`). It is ordered by tree order, and equal to exactly the same trees.
 #[derive(Drop)]
 pub struct CanonicalTree {
     tree: Tree,

@@ -44,7 +44,8 @@ value_is ds m (Some z) t e v fits =
     let text : numeral (unsigned_abs z) ≡ ds = ap numeral digits ∙ numeral_back ds t in
     (above_zero ds (unsigned_abs z) t text, v ∙ ap pos (sym size), fits, text)
 
-pub value_back : (ds : List ℕ) (m : ℕ) (r : Option ℤ) (n : ℕ) → m ≡ saturated (digits_value 10 ds) → MatchOption r (overflow ≤ m) (λ z. z ≡ pos m) → n < overflow → numeral n ≡
+pub value_back : (ds : List ℕ) (m : ℕ) (r : Option ℤ) (n : ℕ) → m ≡ saturated (digits_value 10 ds) →
+    MatchOption r (overflow ≤ m) (λ z. z ≡ pos m) → n < overflow → numeral n ≡
     ds → r ≡ Some (pos n)
 value_back ds m None n e v lt h =
     let digits : digits_value 10 ds ≡ n = ap (digits_value 10) (sym h) ∙ (numeral_digits n).value in

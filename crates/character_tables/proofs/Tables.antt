@@ -45,7 +45,8 @@ row_unique ty accepted r s h g e =
     let value : r.1 ≡ s.1 = number_exact r.1 s.1 both.1 in
     ap (λ (t : Plain). pair t r.1) tree ∙ ap (pair s.0) value
 
-pub rows_unique : (ty : Types) → AreTypes ty → (rs ss : List Row) → AllByRecursion (IsRow ty) rs → AllByRecursion (IsRow ty) ss → map (row_text ty) rs ≡ map (row_text ty) ss →
+pub rows_unique : (ty : Types) → AreTypes ty → (rs ss : List Row) → AllByRecursion (IsRow ty) rs →
+    AllByRecursion (IsRow ty) ss → map (row_text ty) rs ≡ map (row_text ty) ss →
     rs ≡ ss
 rows_unique ty accepted [] [] h g e = refl
 rows_unique ty accepted [] (s ∷ ss) h g e = absurd cc
@@ -129,7 +130,8 @@ module _ {X : Type 0} (c : X → X → Ordering) where
       let rest = sorted_front xs y s.1 in
       ((here.0, rest.0), (here.1, rest.1))
 
-  last_below : IsTotalOrder c → (xs : List X) (y d : X) (i : ℕ) → i + 1 ≡ length xs → IsStrictlySortedBy c xs → c (get_or xs i d) y ≡ Less → AllByRecursion (λ x. c x y ≡ Less) xs
+  last_below : IsTotalOrder c → (xs : List X) (y d : X) (i : ℕ) → i + 1 ≡ length xs →
+      IsStrictlySortedBy c xs → c (get_or xs i d) y ≡ Less → AllByRecursion (λ x. c x y ≡ Less) xs
   unfolding IsStrictlySortedBy
   last_below o [] y d i long s h = absurd (omega (arith, long))
   last_below o (x ∷ []) y d zero long s h = (h, tt)
@@ -178,7 +180,8 @@ module _ (c : Content) (rs : List CharacterRow) (r last : CharacterRow) (i : ℕ
       ∙ ap (λ (q : Row). q.0) (get_or-map (row_at c) rs i last (row_at c last) (omega (arith, long)))
       ∙ ap (λ (q : CharacterRow). tree_at c q.tree.0) (sym at)
 
-  pub behind_last : (o : Ordering) (b : Bool) → o ≡ id_order c.trees last.tree.0 r.tree.0 → b ≡ is_lt o → IsStrictlySortedBy tree_order (trees_in (rows_over c rs)) →
+  pub behind_last : (o : Ordering) (b : Bool) → o ≡ id_order c.trees last.tree.0 r.tree.0 →
+      b ≡ is_lt o → IsStrictlySortedBy tree_order (trees_in (rows_over c rs)) →
       MatchBool b (AreBefore (trees_in (rows_over c rs)) (tree_at c r.tree.0)) (AreBefore (trees_in (rows_over c rs)) (tree_at c r.tree.0) → ⊥)
   behind_last o b e f sorted =
       let order : o ≡ tree_order (tree_at c last.tree.0) (tree_at c r.tree.0) = e ∙ id_order-at c last.tree.0 r.tree.0 last_known there in
@@ -274,7 +277,8 @@ is_character c ls rs read = record { known = read.known; ascending = read.lines.
     values_of (q ∷ qs) h = (h.0.1, values_of qs h.1)
 
 -- lines that are gone through one by one
-pub map_more : {X Y : Type 0} (f : X → Y) (xs : List X) (i : ℕ) (x : X) → i < length xs → x ≡ get_or xs i x → take (i + 1) (map f xs) ≡ take i (map f xs) ++ f x ∷ []
+pub map_more : {X Y : Type 0} (f : X → Y) (xs : List X) (i : ℕ) (x : X) → i < length xs →
+    x ≡ get_or xs i x → take (i + 1) (map f xs) ≡ take i (map f xs) ++ f x ∷ []
 map_more {X} {Y} f xs i x lt is =
     take_more (map f xs) i (f x) (omega (arith, lt, length-map xs f))
     ∙ ap (λ (y : Y). take i (map f xs) ++ y ∷ []) (get_or-map f xs i x (f x) lt ∙ ap f (sym is))
@@ -300,7 +304,8 @@ pub empty_table : (c : Content) → AreReadRows c [] []
 unfolding IsStrictlySortedBy
 empty_table c = record { known = tt; lines = (record { rows = tt; ascending = tt }, refl) }
 
-pub characters_are : {E : Type 0} (c : Content) (ls : List (List ℕ)) (r : Result Character E) → IfOk r (λ g. AreReadRows c ls g.rows) → IfOk r (λ g. IsCharacter c g.rows)
+pub characters_are : {E : Type 0} (c : Content) (ls : List (List ℕ)) (r : Result Character E) →
+    IfOk r (λ g. AreReadRows c ls g.rows) → IfOk r (λ g. IsCharacter c g.rows)
 characters_are c ls (Ok g) h = is_character c ls g.rows h
 characters_are c ls (Err e) h = h
 

@@ -1,4 +1,5 @@
 -- How a table is read, line by line.
+-- Working notions of the code and of proofs, which no contract of a public call names:
 --   HasNo c text == the byte c does not stand in text
 --   behind_minus text == what stands behind a `-` at the front of text, where one stands there
 --   IsRowOf ty line r == r is a row, and line is its text

@@ -2,7 +2,7 @@
 --   number_text z == the decimal digits of z, behind a `-` where it is below 0
 --   row_text ty r == the text of a row: that of its tree, a space, that of its value
 --   IsTableTree ty t == t is a canonical tree over the types, not the empty one, with at most 24
---       edges and a decoration sum of at most 64
+--       edges (`MOST_EDGES`) and a decoration sum of at most 64 (`MOST_LISTED_DECORATIONS`)
 --   IsRow ty r == r is a row of such a tree, its absolute value at most 2^127-1
 --   IsTable ty rs == rs are such rows, in strictly ascending tree order
 --   without_empty_end ps == the parts ps without the last, where that is empty

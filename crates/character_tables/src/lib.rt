@@ -1,4 +1,5 @@
-//! Characters as tables: trees with their values, and the texts that they are read from.
+//! Characters as tables: trees with their values, and the texts that they are read from. They stand
+//! apart from the sums over coproducts, since a table is read without one.
 #![tactic(auto)]
 
 mod error;

@@ -36,13 +36,13 @@ fn read_lines(
 }
 
 /// Reads the text of a table of a character: on each line the text of a tree, a space and a number,
-/// the trees in strictly ascending tree order. A tree is not `[]` and has at most 24 edges and a
-/// decoration sum of at most 64; a number is at most 2^127-1 in absolute value, has no leading
-/// zeros, and is not `-0`. Lines end with LF, which may be missing at the end; the empty text is
-/// the empty table. The trees are put into the pool, which was made with these types. Refused with
-/// `TableRefused` at the first line that is no line of such a table here, from 1 on, also for a
-/// name of no type and for a tree that is too large or not in its canonical text; or for want of
-/// memory.
+/// the trees in strictly ascending tree order. A tree is not `[]` and has at most 24 edges
+/// (`MOST_EDGES`) and a decoration sum of at most 64 (`MOST_LISTED_DECORATIONS`); a number is at
+/// most 2^127-1 in absolute value, has no leading zeros, and is not `-0`. Lines end with LF, which
+/// may be missing at the end; the empty text is the empty table. The trees are put into the pool,
+/// which was made with these types. Refused with `TableRefused` at the first line that is no line
+/// of such a table here, from 1 on, also for a name of no type and for a tree that is too large or
+/// not in its canonical text; or for want of memory.
 pub fn read_table(
     alloc: Global,
     types: &Types,

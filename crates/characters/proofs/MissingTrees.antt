@@ -25,7 +25,8 @@ module _ (c : Content) (rs : List Row) where
       ap (trees_of c) p ∙ map-append (λ (x : TreeId). tree_at c x.0) found (id ∷ [])
       ∙ ap (λ (b : Bool). trees_of c found ++ cond b (tree_at c id.0 ∷ []) []) (sym e)
 
-  pub one_has : (found : List TreeId) (id : TreeId) → lacks_row rs (tree_at c id.0) ≡ false → trees_of c found ≡ trees_of c found ++ lacking rs (tree_at c id.0 ∷ [])
+  pub one_has : (found : List TreeId) (id : TreeId) → lacks_row rs (tree_at c id.0) ≡ false →
+      trees_of c found ≡ trees_of c found ++ lacking rs (tree_at c id.0 ∷ [])
   one_has found id e = sym (append-nil (trees_of c found)) ∙ ap (λ (b : Bool). trees_of c found ++ cond b (tree_at c id.0 ∷ []) []) (sym e)
 
   -- several

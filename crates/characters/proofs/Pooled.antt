@@ -22,7 +22,8 @@ pub empty_at : (c : Content) (i : ℕ) (n : List ℕ) (es : List EdgeTo) (b : Bo
 empty_at c i n [] b h l e = e ∙ ap is_empty_tree (sym (at_holds c i (bare n) h))
 empty_at c i n (f ∷ es) b h l e = absurd (omega (arith, l))
 
-pub edges_at : (c : Content) (i : ℕ) (n : List ℕ) (es : List EdgeTo) → Holds c i (tree_over c.trees n es) → (length es ≡ 0 → ⊥) → false ≡ is_empty_tree (tree_at c i)
+pub edges_at : (c : Content) (i : ℕ) (n : List ℕ) (es : List EdgeTo) →
+    Holds c i (tree_over c.trees n es) → (length es ≡ 0 → ⊥) → false ≡ is_empty_tree (tree_at c i)
 edges_at c i n [] h l = absurd (l refl)
 edges_at c i n (f ∷ es) h l = ap is_empty_tree (sym (at_holds c i (tree_over c.trees n (f ∷ es)) h))
 
@@ -46,7 +47,8 @@ numbers_equal i j e = grind (arith, nat_tests, e)
 equal_numbers : (i j : ℕ) → nat_eq i j ≡ true → i ≡ j
 equal_numbers i j e = grind (arith, nat_tests, e)
 
-pub same_numbers : (c : Content) → IsPooled c → (i j : ℕ) → i < length c.trees → j < length c.trees → nat_eq i j ≡ same_by tree_order (tree_at c i) (tree_at c j)
+pub same_numbers : (c : Content) → IsPooled c → (i j : ℕ) → i < length c.trees →
+    j < length c.trees → nat_eq i j ≡ same_by tree_order (tree_at c i) (tree_at c j)
 same_numbers c pool i j h k =
     both_ways (nat_eq i j) (same_by tree_order (tree_at c i) (tree_at c j))
     (λ e. subst (λ (t : Plain). same_by tree_order (tree_at c i) t ≡ true) (ap (tree_at c) (equal_numbers i j e)) (exact.always (tree_at c i)))
@@ -70,5 +72,6 @@ module _ (c : Content) (pooled : IsPooled c) (rs : List CharacterRow) (known : A
       j) ≡ whole
   row_further whole e h = let s = rw e at next_row in sym s ∙ h
 
-pub no_row : (c : Content) (rs : List CharacterRow) (i : ℕ) (t : Plain) (whole : Option ℤ) → length rs ≤ i → row_of (rows_over c (drop i rs)) t ≡ whole → None ≡ whole
+pub no_row : (c : Content) (rs : List CharacterRow) (i : ℕ) (t : Plain) (whole : Option ℤ) →
+    length rs ≤ i → row_of (rows_over c (drop i rs)) t ≡ whole → None ≡ whole
 no_row c rs i t whole past h = ap (λ (qs : List CharacterRow). row_of (rows_over c qs) t) (sym (none_left rs i past)) ∙ h

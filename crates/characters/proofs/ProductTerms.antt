@@ -57,7 +57,8 @@ term_pushed c gs hs a terms new z e p =
     ap (terms_over c) p ∙ map-append (λ (t : TreeId × ℤ). (tree_at c t.0.0, t.1)) terms ((a.key, z) ∷ [])
     ∙ ap (λ (y : ℤ). terms_over c terms ++ (tree_at c a.key.0, y) ∷ []) e
 
-pub term_step : (c : Content) (gs hs : List Row) (asks : List Asked) (i : ℕ) (a : Asked) (old new whole : List (Plain × ℤ)) → i < length asks → a ≡ get_or asks i a →
+pub term_step : (c : Content) (gs hs : List Row) (asks : List Asked) (i : ℕ) (a : Asked) (old new whole : List (Plain × ℤ)) →
+    i < length asks → a ≡ get_or asks i a →
     new ≡ old ++ answer gs hs (asked_in c a) ∷ [] → old ++ answers gs hs (map (asked_in c) (drop i asks)) ≡ whole → new ++ answers gs hs (map (asked_in c) (drop (i + 1) asks)) ≡
     whole
 term_step c gs hs = row_step (λ (asks : List Asked). answers gs hs (map (asked_in c) asks)) (λ (a : Asked). answer gs hs (asked_in c a) ∷ []) (λ a asks. refl)
@@ -71,16 +72,20 @@ module _ {T : Type 0} (c : Content) (terms : List (TreeId × ℤ)) (ps : List (P
   in_range_now (Ok t) h = omega (arith, size_is c terms ps are, h)
   in_range_now (Err e) h = h
 
-  pub past_range : (r : Result T CharacterError) → IfErr r (λ e. (e ≡ CoefficientTooLarge Sum) × (overflow ≤ size_of terms)) → IfErr r (IsNotGiven c ms (size_of ps))
+  pub past_range : (r : Result T CharacterError) →
+      IfErr r (λ e. (e ≡ CoefficientTooLarge Sum) × (overflow ≤ size_of terms)) →
+      IfErr r (IsNotGiven c ms (size_of ps))
   past_range (Ok t) h = h
   past_range (Err e) h = subst (λ (f : CharacterError). IsNotGiven c ms (size_of ps) f) (sym h.0) (none, omega (arith, size_is c terms ps are, h.1))
 
 -- why a product is refused
-pub not_given : (c : Content) (ms : List Plain) (most : ℕ) (e : CharacterError) → ms ≡ [] → (e ≡ Memory) ⊎ ((e ≡ CoefficientTooLarge Sum) × (overflow ≤ most)) → IsNotGiven c ms
+pub not_given : (c : Content) (ms : List Plain) (most : ℕ) (e : CharacterError) → ms ≡ [] →
+    (e ≡ Memory) ⊎ ((e ≡ CoefficientTooLarge Sum) × (overflow ≤ most)) → IsNotGiven c ms
     most e
 not_given c ms most e none (inl m) = subst (λ (f : CharacterError). IsNotGiven c ms most f) (sym m) tt
 not_given c ms most e none (inr t) = subst (λ (f : CharacterError). IsNotGiven c ms most f) (sym t.0) (none, t.1)
 
-pub terms_known : (c : Content) (terms new : List (TreeId × ℤ)) (key : TreeId) (z : ℤ) → new ≡ terms ++ (key, z) ∷ [] → key.0 < length c.trees → AreKnownTerms c terms →
+pub terms_known : (c : Content) (terms new : List (TreeId × ℤ)) (key : TreeId) (z : ℤ) →
+    new ≡ terms ++ (key, z) ∷ [] → key.0 < length c.trees → AreKnownTerms c terms →
     AreKnownTerms c new
 terms_known c terms new key z e k h = rw e (all_append (λ (t : TreeId × ℤ). t.0.0 < length c.trees) terms ((key, z) ∷ []) h (k, tt))

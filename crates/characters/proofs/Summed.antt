@@ -115,7 +115,8 @@ module _ {K J : Type 0} (same : K → K → Bool) (other : J → J → Bool) (h 
         | false ↦ zeros_moved ts
       ]
 
-  pub sums_moved : (ts : List (K × ℤ)) → AllByRecursion (λ (t : K × ℤ). P t.0) ts → moved (without_zeros (joined same ts)) ≡ without_zeros (joined other (moved ts))
+  pub sums_moved : (ts : List (K × ℤ)) → AllByRecursion (λ (t : K × ℤ). P t.0) ts →
+      moved (without_zeros (joined same ts)) ≡ without_zeros (joined other (moved ts))
   sums_moved ts a = zeros_moved (joined same ts) ∙ ap without_zeros (joined_moved ts a)
 
 -- joining brings no new key
@@ -176,7 +177,8 @@ module _ (c : Content) where
   lines_known [] a = tt
   lines_known (t ∷ ts) a = (a.0, lines_known ts a.1)
 
-  pub line_step : (ts : List (TreeId × ℤ)) (i : ℕ) (t : TreeId × ℤ) (old new whole : List Line) → i < length ts → t ≡ get_or ts i t → new ≡ old ++ line_of t ∷ [] →
+  pub line_step : (ts : List (TreeId × ℤ)) (i : ℕ) (t : TreeId × ℤ) (old new whole : List Line) →
+      i < length ts → t ≡ get_or ts i t → new ≡ old ++ line_of t ∷ [] →
       old ++ map line_of (drop i ts) ≡ whole → new ++ map line_of (drop (i + 1) ts) ≡ whole
   line_step = row_step (λ (ts : List (TreeId × ℤ)). map line_of ts) (λ (t : TreeId × ℤ). line_of t ∷ []) (λ t ts. refl)
 

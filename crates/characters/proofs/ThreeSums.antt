@@ -121,18 +121,21 @@ module _ {K T : Type 0} (c : Content) (xs : List (K × ℕ)) (range : AreInRange
       all (Err e) g = one e g
 
 -- a coproduct that is refused
-pub coproduct_refused : {K : Type 0} (c : Content) (xs : List (K × ℕ)) (ms : List Plain) (most : ℕ) (e : CoproductError) (r : CharacterError) → r ≡ refusal_of e →
+pub coproduct_refused : {K : Type 0} (c : Content) (xs : List (K × ℕ)) (ms : List Plain) (most : ℕ) (e : CoproductError) (r : CharacterError) →
+    r ≡ refusal_of e →
     (e ≡ extraction_error.CoefficientTooLarge → AreInRange xs → ⊥) → IsRefused c xs ms most r
 coproduct_refused {K} c xs ms most extraction_error.CoefficientTooLarge r is h = subst (λ (s : CharacterError). IsRefused c xs ms most s) (sym is) (h refl)
 coproduct_refused {K} c xs ms most extraction_error.Memory r is h = subst (λ (s : CharacterError). IsRefused c xs ms most s) (sym is) tt
 
-pub recentring_refused : {K : Type 0} (c : Content) (xs : List (K × ℕ)) (ms : List Plain) (most : ℕ) (e : RecentringError) (r : CharacterError) → r ≡ right_refusal_of e →
+pub recentring_refused : {K : Type 0} (c : Content) (xs : List (K × ℕ)) (ms : List Plain) (most : ℕ) (e : RecentringError) (r : CharacterError) →
+    r ≡ right_refusal_of e →
     (e ≡ recentring_error.CoefficientTooLarge → AreInRange xs → ⊥) → IsRefused c xs ms most r
 recentring_refused {K} c xs ms most recentring_error.CoefficientTooLarge r is h = subst (λ (s : CharacterError). IsRefused c xs ms most s) (sym is) (h refl)
 recentring_refused {K} c xs ms most recentring_error.Memory r is h = subst (λ (s : CharacterError). IsRefused c xs ms most s) (sym is) tt
 
 -- what a coproduct counts
-pub asked_once : (old new : TablesContent) (id before after : ℕ) → IsFinishedNow old new id before after ⊎ (IsIn id old.finished × IsUncounted old new before after) →
+pub asked_once : (old new : TablesContent) (id before after : ℕ) →
+    IsFinishedNow old new id before after ⊎ (IsIn id old.finished × IsUncounted old new before after) →
     IsAskedOnce old new id before after
 asked_once old new id before after (inl now) = inr now
 asked_once old new id before after (inr there) = inl there.1

@@ -1,4 +1,5 @@
 -- What a sum asks of characters, term by term.
+-- Working notions of the code and of proofs, which no contract of a public call names:
 --   Question == of a term: the tree by which is summed, the coefficient, the trees that the first
 --       character is asked for, and those that the second is asked for
 --   asked_in c a == the question a, by the numbers of a pool
@@ -7,8 +8,8 @@
 --   AreKnown c qs == the numbers of the questions qs are those of trees of the pool
 --   factors gs hs q == the coefficient, and the values of hs and of gs at the trees that they are
 --       asked for
---   answer gs hs q, answers gs hs qs == of a question, of each question the tree with the product of
---       the factors
+--   answer gs hs q, answers gs hs qs == of a question, of each question the tree with the product
+--       of the factors
 --   missing gs hs qs == the trees that are asked for and lack a row
 --   answers_in c g h qs, missing_in c g h qs == the same, by the numbers of a pool
 --   left_question, right_question, question == what the three sums ask of a term

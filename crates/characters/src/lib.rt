@@ -1,4 +1,5 @@
-//! Characters and their sums over the terms of the coproducts.
+//! Characters and their sums over the terms of the coproducts. Tables and coproducts are made
+//! below; here they meet.
 #![tactic(auto)]
 
 mod act;

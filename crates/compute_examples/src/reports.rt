@@ -70,19 +70,30 @@ fn renormalised_kpz_equation(rt: HostRuntime) -> Result<(), Fail> {
     Ok(())
 }
 
-// 8 * 10^18 * 67909^4 is below 2^127, and 8 * 10^18 * 67910^4 is not.
+// 8 * 10^18 * 67909^4 is below 2^127, and 8 * 10^18 * 67910^4 is not; a tree with six kernel edges
+// and the symmetry factor 2 has the denominator 2 * 10^42.
+const TOO_LARGE: [(&str, &str); 2] = [
+    (
+        "1000000*u'(0,1)^2+67910*xi",
+        "refused 9 CoefficientTooLarge [u'(0,1)[xi]*u'(0,1)[u'(0,1)[xi]*u'(0,1)[u'(0,1)[xi]*u'(0,1)[xi]]]] differential u\n",
+    ),
+    (
+        "1/1000000*u'(0,1)^2+xi",
+        "refused 9 CoefficientTooLarge [u'(0,1)[xi]*u'(0,1)[u'(0,1)[xi]*u'(0,1)[u'(0,1)[xi]*u'(0,1)[xi]]]] denominator u\n",
+    ),
+];
+
 #[test]
-fn a_differential_that_is_too_large(rt: HostRuntime) -> Result<(), Fail> {
+fn quantities_that_are_too_large(rt: HostRuntime) -> Result<(), Fail> {
     assert!(rt; kpz(rt.alloc(), "1000000*u'(0,1)^2+67909*xi").is_ok());
-    match kpz(rt.alloc(), "1000000*u'(0,1)^2+67910*xi") {
-        Err(refusal) => {
-            let line = print_refusal(rt.alloc(), &refusal)?;
-            assert_eq!(rt;
-                line.as_slice(),
-                b"refused 9 CoefficientTooLarge [u'(0,1)[xi]*u'(0,1)[u'(0,1)[xi]*u'(0,1)[u'(0,1)[xi]*u'(0,1)[xi]]]] differential u\n".as_slice()
-            );
+    for (right, wanted) in TOO_LARGE {
+        match kpz(rt.alloc(), right) {
+            Err(refusal) => {
+                let line = print_refusal(rt.alloc(), &refusal)?;
+                assert_eq!(rt; line.as_slice(), wanted.as_bytes());
+            }
+            Ok(_) => assert!(rt; false, "{right}"),
         }
-        Ok(_) => assert!(rt; false),
     }
     Ok(())
 }

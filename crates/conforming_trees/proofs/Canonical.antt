@@ -1,4 +1,5 @@
--- Canonical form keeps conformity, and node types of canonical trees are read off in the order of their edges.
+-- Canonical form keeps conformity, and node types of canonical trees are read off in the order of
+-- their edges.
 use Rattle.std.proofs.Common.{◌≡◌, ℕ, true, false, Bool, List, ◌∷◌, refl, sym, ap, ◌∙◌, subst, Ordering, Less, Equal, Greater, nat_cmp}
 use Rattle.std.specs.Ordering.{ordering_then, is_gt}
 use Rattle.std.specs.Cmp.Lexicographic.{slice_cmp}
@@ -18,7 +19,8 @@ over e t = graft e.kind e.p e.child t
 gt : Planted → Planted → Bool
 gt e f = is_gt (planted_order e f)
 
-node_type-with-at : (e f : Planted) (t : Plain) (a : Bool) → is_gt (planted_order e f) ≡ a → node_type_of (with_edge e t) ≡ put_label (label_of e) (node_type_of t) →
+node_type-with-at : (e f : Planted) (t : Plain) (a : Bool) → is_gt (planted_order e f) ≡ a →
+    node_type_of (with_edge e t) ≡ put_label (label_of e) (node_type_of t) →
     node_type_of (with_edge e (over f t)) ≡ put_label (label_of e) (node_type_of (over f t))
 node_type-with-at e f t true h ih = rw h (ap (put_label (label_of f)) ih ∙ put-commute (label_of f) (label_of e) (node_type_of t) (node_type-sorted t))
 node_type-with-at e f t false h ih = rw h refl
@@ -34,11 +36,15 @@ node_type-canon (bare n) = refl
 node_type-canon (graft k p c t) = node_type-with record { kind = k; p = p; child = canon c } (canon t) ∙ ap (put_label (k, p)) (node_type-canon t)
 
 -- an edge over which the tree conforms, put in at its place
-conforms-with-at : (ty : Types) (rule : Rule) (e f : Planted) (t : Plain) (a : Bool) → is_gt (planted_order e f) ≡ a → ConformsAbove ty rule (over e (over f t)) → ConformsAbove ty rule (with_edge e t) → ConformsAbove ty rule (with_edge e (over f t))
+conforms-with-at : (ty : Types) (rule : Rule) (e f : Planted) (t : Plain) (a : Bool) →
+    is_gt (planted_order e f) ≡ a → ConformsAbove ty rule (over e (over f t)) →
+    ConformsAbove ty rule (with_edge e t) → ConformsAbove ty rule (with_edge e (over f t))
 conforms-with-at ty rule e f t true h c ih = rw h (c.2.0, c.2.1, ih)
 conforms-with-at ty rule e f t false h c ih = rw h c
 
-pub conforms-with : (ty : Types) (rule : Rule) (e : Planted) (t : Plain) → IsAllowedAbove ty rule e.kind e.child → ConformsAbove ty rule e.child → ConformsAbove ty rule t → ConformsAbove ty rule (with_edge e t)
+pub conforms-with : (ty : Types) (rule : Rule) (e : Planted) (t : Plain) →
+    IsAllowedAbove ty rule e.kind e.child → ConformsAbove ty rule e.child →
+    ConformsAbove ty rule t → ConformsAbove ty rule (with_edge e t)
 conforms-with ty rule e (bare n) allowed above rest = (allowed, above, rest)
 conforms-with ty rule e (graft k p c t) allowed above rest =
     let f : Planted = record { kind = k; p = p; child = c } in
@@ -51,7 +57,9 @@ conforms-canon ty rule (graft k p c t) h =
     conforms-with ty rule record { kind = k; p = p; child = canon c } (canon t) allowed (conforms-canon ty rule c h.1) (conforms-canon ty rule t h.2)
 
 -- the first edge of a canonical tree
-first-at : (k l : ℕ) (p q : List ℕ) (o : Ordering) → is_gt (ordering_then (nat_cmp k l) (ordering_then (slice_cmp nat_cmp p q) o)) ≡ false → is_gt (edge_label_order (k, p) (l, q)) ≡ false
+first-at : (k l : ℕ) (p q : List ℕ) (o : Ordering) →
+    is_gt (ordering_then (nat_cmp k l) (ordering_then (slice_cmp nat_cmp p q) o)) ≡ false →
+    is_gt (edge_label_order (k, p) (l, q)) ≡ false
 first-at k l p q o h = go (nat_cmp k l) (slice_cmp nat_cmp p q) h
   where
     go : (a b : Ordering) → is_gt (ordering_then a (ordering_then b o)) ≡ false → is_gt (ordering_then a b) ≡ false

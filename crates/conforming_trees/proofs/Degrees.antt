@@ -16,7 +16,9 @@ pub record IsAtMostBy (d : Degree) (e : Degree) : Type 0 where
 ranked : (x y : ℤ) → MatchOrdering (int_cmp x y) (x <ℤ y) (x ≡ y) (y <ℤ x)
 ranked x y = int_ranked x y (int_cmp x y) refl
 
-by_ranks : (d e : Degree) (r s : Ordering) → MatchOrdering r (d.a <ℤ e.a) (d.a ≡ e.a) (e.a <ℤ d.a) → MatchOrdering s (d.b <ℤ e.b) (d.b ≡ e.b) (e.b <ℤ d.b) → ordering_then r s ≢ Greater → IsAtMostBy d e
+by_ranks : (d e : Degree) (r s : Ordering) → MatchOrdering r (d.a <ℤ e.a) (d.a ≡ e.a) (e.a <ℤ d.a) →
+    MatchOrdering s (d.b <ℤ e.b) (d.b ≡ e.b) (e.b <ℤ d.b) → ordering_then r s ≢ Greater →
+    IsAtMostBy d e
 by_ranks d e Less s h k n = record { standard = omega (arith, ints); tied = λ same. omega (arith, ints) }
 by_ranks d e Equal Less h k n = record { standard = omega (arith, ints); tied = λ same. omega (arith, ints) }
 by_ranks d e Equal Equal h k n = record { standard = omega (arith, ints); tied = λ same. omega (arith, ints) }
@@ -26,7 +28,10 @@ by_ranks d e Greater s h k n = absurd (n refl)
 pub by_parts : (d e : Degree) → IsNotAbove d e → IsAtMostBy d e
 by_parts d e h = by_ranks d e (int_cmp d.a e.a) (int_cmp d.b e.b) (ranked d.a e.a) (ranked d.b e.b) h
 
-from_ranks : (d e : Degree) (r s : Ordering) → MatchOrdering r (d.a <ℤ e.a) (d.a ≡ e.a) (e.a <ℤ d.a) → MatchOrdering s (d.b <ℤ e.b) (d.b ≡ e.b) (e.b <ℤ d.b) → IsAtMostBy d e → ordering_then r s ≢ Greater
+from_ranks : (d e : Degree) (r s : Ordering) →
+    MatchOrdering r (d.a <ℤ e.a) (d.a ≡ e.a) (e.a <ℤ d.a) →
+    MatchOrdering s (d.b <ℤ e.b) (d.b ≡ e.b) (e.b <ℤ d.b) → IsAtMostBy d e →
+    ordering_then r s ≢ Greater
 from_ranks d e Less s h k p = λ g. absurd cc
 from_ranks d e Equal Less h k p = λ g. absurd cc
 from_ranks d e Equal Equal h k p = λ g. absurd cc

@@ -30,7 +30,9 @@ in_range a (suc n) k (inl e) = (omega (arith, e), omega (arith, e))
 in_range a (suc n) k (inr h) = let later = in_range (a + 1) n k h in (omega (arith, later.0), omega (arith, later.1))
 
 -- an entry behind the front
-kind_behind : (P : TypeEntry → Type 0) (kind : Kind) (es : List TypeEntry) (m k : ℕ) → ((e : TypeEntry) → P e → e.kind ≡ kind) → AllByRecursion P (drop m es) → m ≤ k → k < length es → option_map (λ e. e.kind) (slice_get es k) ≡ Some kind
+kind_behind : (P : TypeEntry → Type 0) (kind : Kind) (es : List TypeEntry) (m k : ℕ) →
+    ((e : TypeEntry) → P e → e.kind ≡ kind) → AllByRecursion P (drop m es) → m ≤ k → k < length es →
+    option_map (λ e. e.kind) (slice_get es k) ≡ Some kind
 kind_behind P kind [] m k one h l lt = absurd (omega (arith, lt))
 kind_behind P kind (e ∷ es) zero zero one h l lt = ap Some (one e h.0)
 kind_behind P kind (e ∷ es) zero (suc k) one h l lt = kind_behind P kind es zero k one h.1 (omega arith) (omega (arith, lt))
@@ -55,17 +57,23 @@ module _ (eq : Equation) (rule : Rule) where
       let count : length (kernels eq.types) ≡ length eq.types.list - noise_count eq.types = length-drop (noise_count eq.types) eq.types.list in
       kind_behind (IsKernelEntry (unsigned_abs eq.types.units.den)) Kernel eq.types.list (noise_count eq.types) row.kernel.0 (λ e p. p.kind) q.types.of_kernels place.0 (omega (arith, place.1, count, place.0))
 
-  first_edge : (P : EdgeType → Type 0) (edges : List EdgeType) (k : ℕ) (p : List ℕ) (es : List EdgeLabel) → All P edges → map label edges ≡ (k, p) ∷ es → (e : EdgeType) × P e × (e.kind.0 ≡ k) × (e.p.entries ≡ p)
+  first_edge : (P : EdgeType → Type 0) (edges : List EdgeType) (k : ℕ) (p : List ℕ) (es : List EdgeLabel) →
+      All P edges → map label edges ≡ (k, p) ∷ es →
+      (e : EdgeType) × P e × (e.kind.0 ≡ k) × (e.p.entries ≡ p)
   first_edge P [] k p es h same = absurd cc
   first_edge P (e ∷ edges) k p es h same = (e, h 0 e (omega arith), ap (λ (l : List EdgeLabel). (first_of (k, p) l).0) same, ap (λ (l : List EdgeLabel). (first_of (k, p) l).1) same)
 
   -- the first edge type of a node type of the rule
-  pub edge_known : (row : RuleRow) (n : NodeType) (k : ℕ) (p : List ℕ) (es : List EdgeLabel) → IsRule eq rule → IsIn row rule.rows → IsIn n row.nodes → labels n ≡ (k, p) ∷ es → k < length eq.types.list
+  pub edge_known : (row : RuleRow) (n : NodeType) (k : ℕ) (p : List ℕ) (es : List EdgeLabel) →
+      IsRule eq rule → IsIn row rule.rows → IsIn n row.nodes → labels n ≡ (k, p) ∷ es →
+      k < length eq.types.list
   edge_known row n k p es r i m same =
       let e = first_edge (λ e. e.kind.0 < length eq.types.list) n.edges k p es (all_at (IsKnownNode eq.types) row.nodes n (all_at (λ (w : RuleRow). All (IsKnownNode eq.types) w.nodes) rule.rows row r.known i) m) same in
       subst (λ (x : ℕ). x < length eq.types.list) e.2 e.1
 
-  pub edge_directions : (row : RuleRow) (n : NodeType) (k : ℕ) (p : List ℕ) (es : List EdgeLabel) → IsRule eq rule → IsIn row rule.rows → IsIn n row.nodes → labels n ≡ (k, p) ∷ es → IsMultiIndex eq.types.dims p
+  pub edge_directions : (row : RuleRow) (n : NodeType) (k : ℕ) (p : List ℕ) (es : List EdgeLabel) →
+      IsRule eq rule → IsIn row rule.rows → IsIn n row.nodes → labels n ≡ (k, p) ∷ es →
+      IsMultiIndex eq.types.dims p
   edge_directions row n k p es r i m same =
       let e = first_edge (λ e. IsMultiIndex eq.types.dims e.p.entries) n.edges k p es
       (all_at (λ (x : NodeType). All (λ e. IsMultiIndex eq.types.dims e.p.entries) x.edges) row.nodes n (all_at (λ (w : RuleRow). All (λ x. All (λ e. IsMultiIndex eq.types.dims e.p.entries) x.edges) w.nodes) rule.rows row r.directions i) m) same in

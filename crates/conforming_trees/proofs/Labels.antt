@@ -43,7 +43,9 @@ passes : (e f : EdgeLabel) (fs : List EdgeLabel) → gt e f ≡ true → put_lab
 passes e f fs h = rw h refl
 
 -- how often an edge type stands there
-count-put-at : (z e f : EdgeLabel) (fs : List EdgeLabel) (a : Bool) → gt e f ≡ a → count z (put_label e fs) ≡ count z (e ∷ fs) → count z (put_label e (f ∷ fs)) ≡ count z (e ∷ f ∷ fs)
+count-put-at : (z e f : EdgeLabel) (fs : List EdgeLabel) (a : Bool) → gt e f ≡ a →
+    count z (put_label e fs) ≡ count z (e ∷ fs) →
+    count z (put_label e (f ∷ fs)) ≡ count z (e ∷ f ∷ fs)
 count-put-at z e f fs true h ih = ap (count z) (passes e f fs h) ∙ (omega (arith, ih))
 count-put-at z e f fs false h ih = ap (count z) (stops e f fs h)
 
@@ -73,7 +75,9 @@ not_below_through e f (y ∷ ys) h a = (at (edge_label_order y e) refl, not_belo
     at Equal k = rw k refl
     at Greater k = rw k refl
 
-put-all-at : (P : EdgeLabel → Type 0) (e f : EdgeLabel) (fs : List EdgeLabel) (a : Bool) → gt e f ≡ a → P e → P f → AllByRecursion P fs → AllByRecursion P (put_label e fs) → AllByRecursion P (put_label e (f ∷ fs))
+put-all-at : (P : EdgeLabel → Type 0) (e f : EdgeLabel) (fs : List EdgeLabel) (a : Bool) →
+    gt e f ≡ a → P e → P f → AllByRecursion P fs → AllByRecursion P (put_label e fs) →
+    AllByRecursion P (put_label e (f ∷ fs))
 put-all-at P e f fs true h one first rest ih = rw (passes e f fs h) (first, ih)
 put-all-at P e f fs false h one first rest ih = rw (stops e f fs h) (one, (first, rest))
 
@@ -82,7 +86,9 @@ pub put-all : (P : EdgeLabel → Type 0) (e : EdgeLabel) (es : List EdgeLabel) �
 put-all P e [] h a = (h, tt)
 put-all P e (f ∷ fs) h a = put-all-at P e f fs (gt e f) refl h a.0 a.1 (put-all P e fs h a.1)
 
-put-sorted-at : (e f : EdgeLabel) (fs : List EdgeLabel) (a : Bool) → gt e f ≡ a → IsInLabelOrder (f ∷ fs) → IsInLabelOrder (put_label e fs) → IsInLabelOrder (put_label e (f ∷ fs))
+put-sorted-at : (e f : EdgeLabel) (fs : List EdgeLabel) (a : Bool) → gt e f ≡ a →
+    IsInLabelOrder (f ∷ fs) → IsInLabelOrder (put_label e fs) →
+    IsInLabelOrder (put_label e (f ∷ fs))
 put-sorted-at e f fs true h s ih =
     let least = first_is_least edge_label_order edge_label_total f fs s in
     let above = not_less f e (asymmetric edge_label_order edge_label_total e f h) in
@@ -113,7 +119,8 @@ put-commute e f es h =
     (λ z. omega (arith, count-put z e (put_label f es), count-put z f es, count-put z f (put_label e es), count-put z e es))
 
 -- a part of a list, with one more edge type on both sides or on the greater one
-pub put-part : (e : EdgeLabel) (es fs : List EdgeLabel) → IsInLabelOrder es → IsInLabelOrder fs → IsSubMultiset es fs → IsSubMultiset (put_label e es) (put_label e fs)
+pub put-part : (e : EdgeLabel) (es fs : List EdgeLabel) → IsInLabelOrder es → IsInLabelOrder fs →
+    IsSubMultiset es fs → IsSubMultiset (put_label e es) (put_label e fs)
 put-part e es fs h k sub =
     part_of_labels (put_label e es) (put_label e fs) (put-sorted e es h) (put-sorted e fs k)
     (λ z. omega (arith, count-put z e es, count-put z e fs, sub_counts edge_label_order es fs sub z))

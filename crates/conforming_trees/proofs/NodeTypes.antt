@@ -7,7 +7,8 @@ use Rattle.conforming_trees.specs.Conforming.{EdgeLabel, edge_label_order, put_l
 use Rattle.conforming_trees.specs.Budgets.{derivative_sum, IsUsable}
 
 -- what holds in both cases of a test
-pub if_cons : (b : Bool) (e f : EdgeLabel) (fs gs : List EdgeLabel) (P : List EdgeLabel → Type 0) → P (f ∷ gs) → P (e ∷ f ∷ fs) → P (if b then f ∷ gs else e ∷ f ∷ fs)
+pub if_cons : (b : Bool) (e f : EdgeLabel) (fs gs : List EdgeLabel) (P : List EdgeLabel → Type 0) →
+    P (f ∷ gs) → P (e ∷ f ∷ fs) → P (if b then f ∷ gs else e ∷ f ∷ fs)
 if_cons true e f fs gs P h k = h
 if_cons false e f fs gs P h k = k
 

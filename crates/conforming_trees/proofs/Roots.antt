@@ -40,7 +40,8 @@ pub decoration_sum-with_root : (m n : List ℕ) (t : Plain) → sum m + decorati
 decoration_sum-with_root m n (bare l) = omega arith
 decoration_sum-with_root m n (graft k p c t) = omega (arith, decoration_sum-with_root m n t)
 
-pub degree-with_root : (ty : Types) (m n : List ℕ) (t : Plain) → degree_plus (node_degree_of ty m) (degree_of ty (with_root n t)) ≡ degree_plus (node_degree_of ty n) (degree_of ty (with_root m t))
+pub degree-with_root : (ty : Types) (m n : List ℕ) (t : Plain) →
+    degree_plus (node_degree_of ty m) (degree_of ty (with_root n t)) ≡ degree_plus (node_degree_of ty n) (degree_of ty (with_root m t))
 degree-with_root ty m n (bare l) = plus_commutes (node_degree_of ty m) (node_degree_of ty n)
 degree-with_root ty m n (graft k p c t) =
     let first = degree_plus (edge_degree_of ty k p) (degree_of ty c) in

@@ -31,7 +31,9 @@ use Rattle.conforming_trees.proofs.Roots.{root-with_root, with_own_root, edge_co
 
 module _ (eq : Equation) (rule : Rule) where
   -- another decoration at the root of a tree of the right shape
-  shaped-with_root : (row : RuleRow) (n : List ℕ) (t : Plain) → IsShaped eq rule row t → IsMultiIndex eq.types.dims n → decoration_sum_of (with_root n t) ≤ 64 → IsShaped eq rule row (with_root n t)
+  shaped-with_root : (row : RuleRow) (n : List ℕ) (t : Plain) → IsShaped eq rule row t →
+      IsMultiIndex eq.types.dims n → decoration_sum_of (with_root n t) ≤ 64 →
+      IsShaped eq rule row (with_root n t)
   shaped-with_root row n t h m d = record {
     canonical = canonical-with_root n t h.canonical;
     types = types-with_root eq.types n t m h.types;
@@ -53,7 +55,8 @@ module _ (eq : Equation) (rule : Rule) where
   decorations_without : (t : Plain) → decoration_sum_of (with_root zeros t) ≤ decoration_sum_of t
   decorations_without t = omega (arith, decoration_sum_by_root (root_of t) t, ap decoration_sum_of (with_own_root t))
 
-  pub whole_is_stem_with_root : (lows mosts : List Degree) (row : RuleRow) (t : Plain) → IsWhole eq rule mosts row t → IsStem eq rule lows mosts row (with_root zeros t)
+  pub whole_is_stem_with_root : (lows mosts : List Degree) (row : RuleRow) (t : Plain) →
+      IsWhole eq rule mosts row t → IsStem eq rule lows mosts row (with_root zeros t)
   whole_is_stem_with_root lows mosts row t h =
       let s = h.shaped in
       let without = with_root zeros t in record {
@@ -68,7 +71,9 @@ module _ (eq : Equation) (rule : Rule) where
             (not_above_trans (degree_of eq.types without) (degree_of eq.types t) (most_at mosts row.kernel.0) (degree_without t) h.room);
       }
 
-  pub stem_with_root_is_whole : (lows mosts : List Degree) (row : RuleRow) (n : List ℕ) (t : Plain) → IsStem eq rule lows mosts row t → IsMultiIndex eq.types.dims n → decoration_sum_of (with_root n t) ≤ 64 →
+  pub stem_with_root_is_whole : (lows mosts : List Degree) (row : RuleRow) (n : List ℕ) (t : Plain) →
+      IsStem eq rule lows mosts row t → IsMultiIndex eq.types.dims n →
+      decoration_sum_of (with_root n t) ≤ 64 →
       IsNotAbove (degree_of eq.types (with_root n t)) (most_at mosts row.kernel.0) → IsWhole eq rule mosts row (with_root n t)
   stem_with_root_is_whole lows mosts row n t h m d room = record { shaped = shaped-with_root row n t h.shaped m d; room = room }
 
@@ -79,7 +84,8 @@ module _ (eq : Equation) (rule : Rule) where
   without_first row (f ∷ fs) e es r i h same =
       (record { edges = fs }, (r.normal row i).closed record { edges = f ∷ fs } record { edges = fs } h (sub_skip (pairs record { edges = fs }) (pairs record { edges = fs }) (pair_of f) (sub_refl (pairs record { edges = fs }))), ap (drop 1) same)
 
-  allows_rest : (row : RuleRow) (k : ℕ) (p : List ℕ) (c t : Plain) → IsRule eq rule → IsIn row rule.rows → IsCanonical (graft k p c t) → Allows row (graft k p c t) → Allows row t
+  allows_rest : (row : RuleRow) (k : ℕ) (p : List ℕ) (c t : Plain) → IsRule eq rule →
+      IsIn row rule.rows → IsCanonical (graft k p c t) → Allows row (graft k p c t) → Allows row t
   allows_rest row k p c t r i h a = without_first row a.0.edges (k, p) (node_type_of t) r i a.1 (a.2 ∙ node_type-first k p c t h)
 
   pub extension_is_allowed : (lows mosts : List Degree) (row : RuleRow) (k : ℕ) (p : List ℕ) (c t : Plain) → IsStem eq rule lows mosts row (graft k p c t) →
@@ -87,7 +93,8 @@ module _ (eq : Equation) (rule : Rule) where
   extension_is_allowed lows mosts row k p c t h =
       let s = h.shaped in (s.root.0, s.root.1, s.root.2 ∙ node_type-first k p c t s.canonical, subst IsUsable (sym s.root.2) (node_usable (graft k p c t) s.edges s.decorations))
 
-  shaped_rest : (row : RuleRow) (k : ℕ) (p : List ℕ) (c t : Plain) → IsRule eq rule → IsIn row rule.rows → IsShaped eq rule row (graft k p c t) → IsShaped eq rule row t
+  shaped_rest : (row : RuleRow) (k : ℕ) (p : List ℕ) (c t : Plain) → IsRule eq rule →
+      IsIn row rule.rows → IsShaped eq rule row (graft k p c t) → IsShaped eq rule row t
   shaped_rest row k p c t r i s = record {
     canonical = s.canonical.1;
     types = s.types.2;
@@ -98,7 +105,9 @@ module _ (eq : Equation) (rule : Rule) where
   }
 
   -- the first edge moves to what edges in front can bring
-  rest_room : (d x y f most : Degree) → IsNotAbove x y → IsNotAbove (degree_plus (degree_plus y d) f) most → IsNotAbove (degree_plus d (degree_plus f (degree_plus x degree_zero))) most
+  rest_room : (d x y f most : Degree) → IsNotAbove x y →
+      IsNotAbove (degree_plus (degree_plus y d) f) most →
+      IsNotAbove (degree_plus d (degree_plus f (degree_plus x degree_zero))) most
   rest_room d x y f most h k =
       not_above_trans (degree_plus d (degree_plus f (degree_plus x degree_zero))) (degree_plus (degree_plus y d) f) most
       (subst (λ (z : Degree). IsNotAbove z (degree_plus (degree_plus y d) f)) regrouped (plus_not_above (degree_plus x d) (degree_plus y d) f f (plus_not_above x y d d h (not_above_self d)) (not_above_self f))) k
@@ -106,7 +115,9 @@ module _ (eq : Equation) (rule : Rule) where
       regrouped : degree_plus (degree_plus x d) f ≡ degree_plus d (degree_plus f (degree_plus x degree_zero))
       regrouped = degree_is (degree_plus (degree_plus x d) f) (degree_plus d (degree_plus f (degree_plus x degree_zero))) (omega (arith, ints)) (omega (arith, ints))
 
-  pub rest_is_stem : (lows mosts : List Degree) (row : RuleRow) (k : ℕ) (p : List ℕ) (c t : Plain) → IsRule eq rule → AreLow eq rule lows → IsIn row rule.rows → IsStem eq rule lows mosts row (graft k p c t) →
+  pub rest_is_stem : (lows mosts : List Degree) (row : RuleRow) (k : ℕ) (p : List ℕ) (c t : Plain) →
+      IsRule eq rule → AreLow eq rule lows → IsIn row rule.rows →
+      IsStem eq rule lows mosts row (graft k p c t) →
       IsStem eq rule lows mosts row t
   rest_is_stem lows mosts row k p c t r l i h =
       let s = h.shaped in
@@ -125,7 +136,9 @@ module _ (eq : Equation) (rule : Rule) where
       }
 
   -- what the others leave for the child
-  child_room : (e c d x f most rest : Degree) → IsNotAbove x d → IsNotAbove (degree_plus (degree_plus (degree_plus e c) d) f) most → IsNotAbove most (degree_plus (degree_plus e rest) (degree_plus f x)) → IsNotAbove c rest
+  child_room : (e c d x f most rest : Degree) → IsNotAbove x d →
+      IsNotAbove (degree_plus (degree_plus (degree_plus e c) d) f) most →
+      IsNotAbove most (degree_plus (degree_plus e rest) (degree_plus f x)) → IsNotAbove c rest
   child_room e c d x f most rest h k m =
       plus_cancels c rest (degree_plus (degree_plus e d) f) (degree_plus (degree_plus e x) f)
       (not_above_trans (degree_plus c (degree_plus (degree_plus e d) f)) most (degree_plus rest (degree_plus (degree_plus e x) f)) (subst (λ (z : Degree). IsNotAbove z most) before k)
@@ -139,7 +152,8 @@ module _ (eq : Equation) (rule : Rule) where
       after = degree_is (degree_plus (degree_plus e rest) (degree_plus f x)) (degree_plus rest (degree_plus (degree_plus e x) f)) (omega (arith, ints)) (omega (arith, ints))
 
   -- what stands above an edge of a kernel of a stem
-  pub child_is_whole : (lows mosts : List Degree) (row : RuleRow) (k : ℕ) (p : List ℕ) (c t : Plain) → AreLow eq rule lows → AreBudgets eq rule lows mosts → IsIn row rule.rows →
+  pub child_is_whole : (lows mosts : List Degree) (row : RuleRow) (k : ℕ) (p : List ℕ) (c t : Plain) →
+      AreLow eq rule lows → AreBudgets eq rule lows mosts → IsIn row rule.rows →
       IsStem eq rule lows mosts row (graft k p c t) → kind_of eq.types k ≡ Some Kernel → (r : RuleRow) × IsIn r rule.rows × (r.kernel.0 ≡ k) × IsWhole eq rule mosts r c
   child_is_whole lows mosts row k p c t l b i h kernel =
       let s = h.shaped in
@@ -168,7 +182,9 @@ module _ (eq : Equation) (rule : Rule) where
   abbrev pub IsChild : List Degree → ℕ → Plain → Type 0
   IsChild mosts k c = ((kind_of eq.types k ≡ Some Noise) × (c ≡ empty_tree)) ⊎ ((r : RuleRow) × IsIn r rule.rows × (r.kernel.0 ≡ k) × IsWhole eq rule mosts r c)
 
-  child_edge : (mosts : List Degree) (row : RuleRow) (n : NodeType) (k : ℕ) (p : List ℕ) (es : List EdgeLabel) (c : Plain) → IsEquation eq → IsRule eq rule → IsIn row rule.rows → IsIn n row.nodes → labels n ≡ (k, p) ∷ es →
+  child_edge : (mosts : List Degree) (row : RuleRow) (n : NodeType) (k : ℕ) (p : List ℕ) (es : List EdgeLabel) (c : Plain) →
+      IsEquation eq → IsRule eq rule → IsIn row rule.rows → IsIn n row.nodes →
+      labels n ≡ (k, p) ∷ es →
       IsChild mosts k c → IsEdge eq.types k p c
   child_edge mosts row n k p es c q r i m same child = record {
     known = edge_known eq rule row n k p es r i m same;
@@ -197,12 +213,15 @@ module _ (eq : Equation) (rule : Rule) where
   child_above mosts k c (inr h) = h.3.shaped.above
 
   -- what edges in front bring is at least the reserve, and some bring just that
-  pub reserve_room : (lows mosts : List Degree) (row : RuleRow) (t : Plain) (r : Degree) → IsReserve eq lows row (node_type_of t) r → IsStem eq rule lows mosts row t → IsNotAbove (degree_plus (degree_of eq.types t) r) (most_at mosts row.kernel.0)
+  pub reserve_room : (lows mosts : List Degree) (row : RuleRow) (t : Plain) (r : Degree) →
+      IsReserve eq lows row (node_type_of t) r → IsStem eq rule lows mosts row t →
+      IsNotAbove (degree_plus (degree_of eq.types t) r) (most_at mosts row.kernel.0)
   reserve_room lows mosts row t r h s =
       not_above_trans (degree_plus (degree_of eq.types t) r) (degree_plus (degree_of eq.types t) (lows_of eq.types lows s.front)) (most_at mosts row.kernel.0)
       (plus_not_above (degree_of eq.types t) (degree_of eq.types t) r (lows_of eq.types lows s.front) (not_above_self (degree_of eq.types t)) (h.least s.node s.front s.node_of_row s.usable s.ends)) s.room
 
-  pub stem_by_reserve : (lows mosts : List Degree) (row : RuleRow) (t : Plain) (r : Degree) → IsShaped eq rule row t → root_of t ≡ zeros → IsReserve eq lows row (node_type_of t) r →
+  pub stem_by_reserve : (lows mosts : List Degree) (row : RuleRow) (t : Plain) (r : Degree) →
+      IsShaped eq rule row t → root_of t ≡ zeros → IsReserve eq lows row (node_type_of t) r →
       IsNotAbove (degree_plus (degree_of eq.types t) r) (most_at mosts row.kernel.0) → IsStem eq rule lows mosts row t
   stem_by_reserve lows mosts row t r s z h room = record {
     shaped = s;
@@ -216,7 +235,8 @@ module _ (eq : Equation) (rule : Rule) where
   }
 
   -- one more edge in front
-  pub stem_grown : (lows mosts : List Degree) (row : RuleRow) (n : NodeType) (k : ℕ) (p : List ℕ) (c t : Plain) (r : Degree) → IsEquation eq → IsRule eq rule → IsIn row rule.rows → IsStem eq rule lows mosts row t →
+  pub stem_grown : (lows mosts : List Degree) (row : RuleRow) (n : NodeType) (k : ℕ) (p : List ℕ) (c t : Plain) (r : Degree) →
+      IsEquation eq → IsRule eq rule → IsIn row rule.rows → IsStem eq rule lows mosts row t →
       IsIn n row.nodes → labels n ≡ (k, p) ∷ node_type_of t → IsChild mosts k c → IsAtMostFirst record { kind = k; p = p; child = c } t → edge_count_of (graft k p c t) ≤ 24 → decoration_sum_of (graft k p c t) ≤ 64 →
       IsReserve eq lows row (labels n) r → IsNotAbove (degree_plus (degree_of eq.types (graft k p c t)) r) (most_at mosts row.kernel.0) → IsStem eq rule lows mosts row (graft k p c t)
   stem_grown lows mosts row n k p c t r q u i h m same child first e d reserve room =

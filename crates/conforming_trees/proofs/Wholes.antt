@@ -23,7 +23,9 @@ use Rattle.conforming_trees.specs.Budgets.{IsNotAbove, AreBudgets, most_at, IsWh
 use Rattle.conforming_trees.proofs.Degrees.{not_above_trans}
 
 module _ (eq : Equation) (rule : Rule) where
-  pub candidate_is_whole : (lows mosts : List Degree) (t : Plain) → AreBudgets eq rule lows mosts → IsCandidate eq rule t → IsNotAbove (degree_of eq.types t) degree_zero → edge_count_of t ≤ 24 → decoration_sum_of t ≤ 64 →
+  pub candidate_is_whole : (lows mosts : List Degree) (t : Plain) → AreBudgets eq rule lows mosts →
+      IsCandidate eq rule t → IsNotAbove (degree_of eq.types t) degree_zero → edge_count_of t ≤ 24 →
+      decoration_sum_of t ≤ 64 →
       (row : RuleRow) × IsIn row rule.rows × IsWhole eq rule mosts row t
   candidate_is_whole lows mosts t b c h e d =
       let row = c.conforming.root.0 in
@@ -36,7 +38,9 @@ module _ (eq : Equation) (rule : Rule) where
         },
       )
 
-  pub whole_is_candidate : (mosts : List Degree) (row : RuleRow) (t : Plain) → IsIn row rule.rows → IsWhole eq rule mosts row t → planted eq.types t ≡ false → 0 < edge_count_of t → IsCandidate eq rule t
+  pub whole_is_candidate : (mosts : List Degree) (row : RuleRow) (t : Plain) → IsIn row rule.rows →
+      IsWhole eq rule mosts row t → planted eq.types t ≡ false → 0 < edge_count_of t →
+      IsCandidate eq rule t
   whole_is_candidate mosts row t i h unplanted edge = record {
     canonical = h.shaped.canonical;
     types = h.shaped.types;

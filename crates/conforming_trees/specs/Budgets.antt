@@ -1,18 +1,32 @@
--- Bounds of degrees by which the trees of a degree of at most 0 are found: what stands above an edge has at least a low degree, so it leaves at most a rest.
+-- Bounds of degrees by which the trees of a degree of at most 0 are found: what stands above an
+-- edge has at least a low degree, so it leaves at most a rest.
+-- What contracts of public calls say:
 --   IsNotAbove d e == the degree d is at most e
---   IsUsable es == at most 24 edge types, whose derivative decorations have a sum of entries of at most 64: no other can leave a node of a tree that is not too large
---   lows : a degree for each type k, to be at most |k| plus the degree of each tree that may stand above an edge of type k
+--   derivative_sum es == the sum of all entries of the derivative decorations of es
+--   IsUsable es == at most 24 edge types, whose derivative decorations have a sum of entries of at
+--       most 64 (`MOST_LISTED_DECORATIONS`): no other can leave a node of a tree that is not too
+--       large
+--   lows : a degree for each type k, to be at most |k| plus the degree of each tree that may stand
+--       above an edge of type k
 --   low_at lows k == that of type k
---   edge_low ty lows e == that of the type of the edge type e, less the scaled size of its derivative
+--   edge_low ty lows e == that of the type of the edge type e, less the scaled size of its
+--       derivative
 --   lows_of ty lows es == the sum of these over es
---   AreLow eq rule lows == the degree of each noise; and of a kernel k at most |k| plus the sum over each usable node type of its row
---   mosts : a degree for each kernel, to be at least that of each tree that stands above an edge of it, or at a root, in a tree of a degree of at most 0
+--   AreLow eq rule lows == the degree of each noise; and of a kernel k at most |k| plus the sum
+--       over each usable node type of its row
+--   mosts : a degree for each kernel, to be at least that of each tree that stands above an edge of
+--       it, or at a root, in a tree of a degree of at most 0
 --   most_at mosts k == that of type k
---   AreBudgets eq rule lows mosts == each is at least 0; and what a node type leaves for one of its kernel edges, where the others have their low degrees, is at most that of this kernel
---   IsReserve eq lows row es r == r is the least sum of low degrees that edges in front of es can bring, so that together they are a usable node type of the row
+--   AreBudgets eq rule lows mosts == each is at least 0; and what a node type leaves for one of its
+--       kernel edges, where the others have their low degrees, is at most that of this kernel
+--   IsReserve eq lows row es r == r is the least sum of low degrees that edges in front of es can
+--       bring, so that together they are a usable node type of the row
+-- Working notions of the code and of proofs:
 --   with_root n t == the tree t with the decoration n at its root
---   IsShaped eq rule row t == t is canonical, over the types of eq, not too large, conforms above each edge, and its root's node type is one of the row
---   IsStem eq rule lows mosts row t == such a tree with the root decoration 0, to which edges in front may bring it down to the most of the row's kernel
+--   IsShaped eq rule row t == t is canonical, over the types of eq, not too large, conforms above
+--       each edge, and its root's node type is one of the row
+--   IsStem eq rule lows mosts row t == such a tree with the root decoration 0, to which edges in
+--       front may bring it down to the most of the row's kernel
 --   IsWhole eq rule mosts row t == such a tree of a degree of at most the most of the row's kernel
 use Rattle.std.specs.Prelude.{◌≡◌, ◌≢◌, ◌≤◌, ℕ, ◌+◌, List, [], ◌∷◌, ◌++◌, length, sum, slice_index_or}
 use Rattle.std.specs.declared.cmp.Ordering.TheVariants.{Greater}
@@ -62,30 +76,38 @@ pub record AreLow (eq : Equation) (rule : Rule) (lows : List Degree) : Type 0 wh
       IsIn row rule.rows →
       IsIn n row.nodes →
       IsUsable (labels n) →
-      IsNotAbove (low_at lows row.kernel.0) (degree_plus (type_degree eq.types row.kernel.0) (lows_of eq.types lows (labels n)))
+      IsNotAbove (low_at lows row.kernel.0) (degree_plus (type_degree eq.types row.kernel.0)
+      (lows_of eq.types lows (labels n)))
 
 abbrev pub most_at : List Degree → ℕ → Degree
 most_at mosts k = slice_index_or mosts k degree_zero
 
-pub record AreBudgets (eq : Equation) (rule : Rule) (lows : List Degree) (mosts : List Degree) : Type 0 where
-  pub roots : (row : RuleRow) → IsIn row rule.rows → IsNotAbove degree_zero (most_at mosts row.kernel.0)
+pub record AreBudgets (eq : Equation) (rule : Rule) (lows : List Degree)
+    (mosts : List Degree) : Type 0 where
+  pub roots : (row : RuleRow) → IsIn row rule.rows →
+      IsNotAbove degree_zero (most_at mosts row.kernel.0)
   pub children :
-      (row : RuleRow) (n : NodeType) (front : List EdgeLabel) (e : EdgeLabel) (back : List EdgeLabel) →
+      (row : RuleRow) (n : NodeType) (front : List EdgeLabel) (e : EdgeLabel)
+      (back : List EdgeLabel) →
       IsIn row rule.rows →
       IsIn n row.nodes →
       IsUsable (labels n) →
       labels n ≡ front ++ e ∷ back →
       kind_of eq.types e.0 ≡ Some Kernel →
-      IsNotAbove (most_at mosts row.kernel.0) (degree_plus (degree_plus (edge_degree_of eq.types e.0 e.1) (most_at mosts e.0)) (lows_of eq.types lows (front ++ back)))
+      IsNotAbove (most_at mosts row.kernel.0)
+      (degree_plus (degree_plus (edge_degree_of eq.types e.0 e.1) (most_at mosts e.0))
+      (lows_of eq.types lows (front ++ back)))
 
-pub record IsReserve (eq : Equation) (lows : List Degree) (row : RuleRow) (es : List EdgeLabel) (r : Degree) : Type 0 where
+pub record IsReserve (eq : Equation) (lows : List Degree) (row : RuleRow) (es : List EdgeLabel)
+    (r : Degree) : Type 0 where
   pub node : NodeType
   pub front : List EdgeLabel
   pub node_of_row : IsIn node row.nodes
   pub usable : IsUsable (labels node)
   pub ends : labels node ≡ front ++ es
   pub is : r ≡ lows_of eq.types lows front
-  pub least : (n : NodeType) (f : List EdgeLabel) → IsIn n row.nodes → IsUsable (labels n) → labels n ≡ f ++ es → IsNotAbove r (lows_of eq.types lows f)
+  pub least : (n : NodeType) (f : List EdgeLabel) → IsIn n row.nodes → IsUsable (labels n) →
+      labels n ≡ f ++ es → IsNotAbove r (lows_of eq.types lows f)
 
 abbrev pub with_root : List ℕ → Plain → Plain
 with_root n (bare m) = bare n
@@ -99,7 +121,8 @@ pub record IsShaped (eq : Equation) (rule : Rule) (row : RuleRow) (t : Plain) : 
   pub edges : edge_count_of t ≤ MOST_EDGES
   pub decorations : decoration_sum_of t ≤ MOST_LISTED_DECORATIONS
 
-pub record IsStem (eq : Equation) (rule : Rule) (lows : List Degree) (mosts : List Degree) (row : RuleRow) (t : Plain) : Type 0 where
+pub record IsStem (eq : Equation) (rule : Rule) (lows : List Degree) (mosts : List Degree)
+    (row : RuleRow) (t : Plain) : Type 0 where
   pub shaped : IsShaped eq rule row t
   pub undecorated : root_of t ≡ zeros
   pub node : NodeType
@@ -107,8 +130,10 @@ pub record IsStem (eq : Equation) (rule : Rule) (lows : List Degree) (mosts : Li
   pub node_of_row : IsIn node row.nodes
   pub usable : IsUsable (labels node)
   pub ends : labels node ≡ front ++ node_type_of t
-  pub room : IsNotAbove (degree_plus (degree_of eq.types t) (lows_of eq.types lows front)) (most_at mosts row.kernel.0)
+  pub room : IsNotAbove (degree_plus (degree_of eq.types t) (lows_of eq.types lows front))
+      (most_at mosts row.kernel.0)
 
-pub record IsWhole (eq : Equation) (rule : Rule) (mosts : List Degree) (row : RuleRow) (t : Plain) : Type 0 where
+pub record IsWhole (eq : Equation) (rule : Rule) (mosts : List Degree) (row : RuleRow)
+    (t : Plain) : Type 0 where
   pub shaped : IsShaped eq rule row t
   pub room : IsNotAbove (degree_of eq.types t) (most_at mosts row.kernel.0)

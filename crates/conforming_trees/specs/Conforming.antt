@@ -6,12 +6,16 @@
 --   node_type_of t == the edge types of the edges that leave the root of t, in their order
 --   IsInRow row es == the edge types es are a node type of the row
 --   IsInKernelRow rule k es == they are one of the row of kernel k
---   IsInRule ty rule k es == they are one in the rule of type k: of a noise, the empty one alone; of a kernel, one of its row
+--   IsInRule ty rule k es == they are one in the rule of type k: of a noise, the empty one alone;
+--       of a kernel, one of its row
 --   Allows row t, IsAllowedAbove ty rule k t == so is the node type at the root of t
 --   IsAllowedAtRoot rule t == it is in the rule of some kernel
---   ConformsAbove ty rule t == above each edge of t stands a node type that the rule of its type allows
---   IsConforming ty rule t == so it is, and the node type at the root is in the rule of some kernel: t strongly conforms to the rule
---   HasDirections dims rows, IsRule eq rule == a rule over the types of eq: the notions of normal_rule, for use with it
+--   ConformsAbove ty rule t == above each edge of t stands a node type that the rule of its type
+--       allows
+--   IsConforming ty rule t == so it is, and the node type at the root is in the rule of some
+--       kernel: t strongly conforms to the rule
+--   HasDirections dims rows, IsRule eq rule == a rule over the types of eq: the notions of
+--       normal_rule, for use with it
 use Rattle.std.specs.Prelude.{◌≡◌, ℕ, List, [], ◌∷◌, ◌⊎◌, ⊤, map, if◌then◌else◌, Some}
 use Rattle.std.specs.Ordering.{nat_cmp, ordering_then, is_gt}
 use Rattle.std.specs.Cmp.Lexicographic.{slice_cmp}
@@ -67,7 +71,8 @@ IsAllowedAtRoot rule t = (row : RuleRow) × IsIn row rule.rows × Allows row t
 
 abbrev pub ConformsAbove : Types → Rule → Plain → Type 0
 ConformsAbove ty rule (bare n) = ⊤
-ConformsAbove ty rule (graft k p c t) = IsAllowedAbove ty rule k c × ConformsAbove ty rule c × ConformsAbove ty rule t
+ConformsAbove ty rule (graft k p c t) = IsAllowedAbove ty rule k c × ConformsAbove ty rule c
+    × ConformsAbove ty rule t
 
 pub record IsConforming (ty : Types) (rule : Rule) (t : Plain) : Type 0 where
   pub root : IsAllowedAtRoot rule t

@@ -1,12 +1,15 @@
 -- The listed trees of a rule.
---   IsCandidate eq rule t == t is canonical, over the types of eq, strongly conforming, unplanted and has an edge
+--   IsCandidate eq rule t == t is canonical, over the types of eq, strongly conforming, unplanted
+--       and has an edge
 --   IsListed eq rule t == such a tree of a degree below 0
 --   IsZero eq rule t == such a tree of degree exactly 0
---   IsTooLarge t == t has more than 24 edges, or a decoration sum of more than 64
+--   IsTooLarge t == t has more than 24 edges (`MOST_EDGES`), or a decoration sum of more than 64
+--       (`MOST_LISTED_DECORATIONS`)
 --   listing_order ty s t == by degree, then in tree order, which begins with the number of edges
 --   IsWholeList eq rule ts == ts are the listed trees, each once, in that order
---   IsFirstZero eq rule z == z is the first such tree of degree 0 in tree order, or none where there is none
---   HasTooManyTrees eq rule == more than 4,000 listed trees are not too large
+--   IsFirstZero eq rule z == z is the first such tree of degree 0 in tree order, or none where
+--       there is none
+--   HasTooManyTrees eq rule == more than 4,000 listed trees (`MOST_LISTED_TREES`) are not too large
 --   HasTooLargeTree eq rule == some such tree of a degree of at most 0 is too large
 use Rattle.std.specs.Prelude.{◌≡◌, ◌≢◌, ◌<◌, ◌≤◌, false, List, length, ◌⊎◌}
 use Rattle.std.specs.List.Sorted.{IsStrictlySortedBy}
@@ -54,14 +57,16 @@ pub record IsWholeList (eq : Equation) (rule : Rule) (ts : List Plain) : Type 0 
 
 abbrev pub IsFirstZero : Equation → Rule → Option Plain → Type 0
 IsFirstZero eq rule None = (t : Plain) → IsZero eq rule t → ⊥
-IsFirstZero eq rule (Some z) = IsZero eq rule z × ((t : Plain) → IsZero eq rule t → tree_order z t ≢ Greater)
+IsFirstZero eq rule (Some z) =
+    IsZero eq rule z × ((t : Plain) → IsZero eq rule t → tree_order z t ≢ Greater)
 
 pub record HasTooManyTrees (eq : Equation) (rule : Rule) : Type 0 where
   pub trees : List Plain
   pub ascending : IsStrictlySortedBy (listing_order eq.types) trees
   pub many : MOST_LISTED_TREES < length trees
   pub listed : (t : Plain) → IsIn t trees → IsListed eq rule t
-  pub fit : (t : Plain) → IsIn t trees → (edge_count_of t ≤ MOST_EDGES) × (decoration_sum_of t ≤ MOST_LISTED_DECORATIONS)
+  pub fit : (t : Plain) → IsIn t trees → (edge_count_of t ≤ MOST_EDGES) × (decoration_sum_of t
+      ≤ MOST_LISTED_DECORATIONS)
 
 pub record HasTooLargeTree (eq : Equation) (rule : Rule) : Type 0 where
   pub tree : Plain

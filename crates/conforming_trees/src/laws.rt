@@ -7,10 +7,13 @@ ghost use Rattle.normal_rule.specs.declared.rule.Rule.{Rule};
 ghost use Rattle.conforming_trees.specs.Conforming.{IsConforming};
 ghost use Rattle.conforming_trees.specs.Listed.{listing_order};
 
-/// Whether a tree strongly conforms to a rule does not depend on the order in which its edges are drawn; and with a tree its canonical form conforms.
+/// Whether a tree strongly conforms to a rule does not depend on the order in which its edges are
+/// drawn; and with a tree its canonical form conforms.
 pub fn conformity_laws()
-    ensures drawing { (ty : Types) (rule : Rule) (s t : Plain) → IsSame s t → IsConforming ty rule s → IsConforming ty rule t }
-    ensures canonical { (ty : Types) (rule : Rule) (t : Plain) → IsConforming ty rule t → IsConforming ty rule (canon t) }
+    ensures drawing { (ty : Types) (rule : Rule) (s t : Plain) → IsSame s t →
+        IsConforming ty rule s → IsConforming ty rule t }
+    ensures canonical { (ty : Types) (rule : Rule) (t : Plain) → IsConforming ty rule t →
+        IsConforming ty rule (canon t) }
 {}
 
 /// The order of the listing is total.

@@ -1,4 +1,5 @@
-//! Trees that conform to a rule, the listed trees, and their laws. It has definitions and laws alone, and no body that could be wrong.
+//! Trees that conform to a rule, the listed trees, and their laws. It has definitions and laws
+//! alone, and no body that could be wrong.
 #![tactic(auto)]
 
 mod laws;

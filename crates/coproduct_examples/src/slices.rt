@@ -1,6 +1,6 @@
 // Terms in an arena, read when the tables that gave them are gone. None can be kept past the arena:
 // `.ci/loans` tries to.
-use crate::checked::{asked, tables_with};
+use crate::extraction::{asked_extraction, tables_with};
 use bumpalo::Bump;
 use extraction_coproduct::{ExtractTerm, Tables, Work};
 use known_types::kpz_types;
@@ -10,7 +10,7 @@ use tree_pool::TreeId;
 /// The terms of a tree, where it has some.
 fn terms_of<'a>(alloc: Global, tables: &mut Tables<'a>, id: TreeId) -> Option<&'a [ExtractTerm]> {
     let mut work = Work { tables: 0 };
-    asked(alloc, tables, id, &mut work)?.ok()
+    asked_extraction(alloc, tables, id, &mut work)?.ok()
 }
 
 /// The number of terms of `[X(0,1)*xi]`, read when the tables are gone.

@@ -22,7 +22,9 @@ none_back ds (suc n) e f h =
     let both : true ≡ false = sym is ∙ f in
     absurd cc
 
-pub value_is : (ds : List ℕ) (m : ℕ) (r : Option ℤ) → is_numeral ds ≡ true → m ≡ saturated (digits_value 10 ds) → MatchOption r (overflow ≤ m) (λ z. z ≡ pos m) → IfSome r (λ z. unsigned_abs z < overflow)
+pub value_is : (ds : List ℕ) (m : ℕ) (r : Option ℤ) → is_numeral ds ≡ true →
+    m ≡ saturated (digits_value 10 ds) → MatchOption r (overflow ≤ m) (λ z. z ≡ pos m) →
+    IfSome r (λ z. unsigned_abs z < overflow)
     → IfSome r (λ z. (z ≡ pos (unsigned_abs z)) × (numeral (unsigned_abs z) ≡ ds))
 value_is ds m None t e v fits = tt
 value_is ds m (Some z) t e v fits =
@@ -30,7 +32,8 @@ value_is ds m (Some z) t e v fits =
     let digits : unsigned_abs z ≡ digits_value 10 ds = omega (arith, size, e, fits) in
     (v ∙ ap pos (sym size), ap numeral digits ∙ numeral_back ds t)
 
-pub value_back : (ds : List ℕ) (m : ℕ) (r : Option ℤ) (n : ℕ) → m ≡ saturated (digits_value 10 ds) → MatchOption r (overflow ≤ m) (λ z. z ≡ pos m) → n < overflow → numeral n ≡ ds → r ≡ Some (pos n)
+pub value_back : (ds : List ℕ) (m : ℕ) (r : Option ℤ) (n : ℕ) → m ≡ saturated (digits_value 10 ds) →
+    MatchOption r (overflow ≤ m) (λ z. z ≡ pos m) → n < overflow → numeral n ≡ ds → r ≡ Some (pos n)
 value_back ds m None n e v lt h =
     let digits : digits_value 10 ds ≡ n = ap (digits_value 10) (sym h) ∙ (numeral_digits n).value in
     absurd (omega (arith, digits, e, v, lt))

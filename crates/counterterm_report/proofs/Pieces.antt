@@ -10,7 +10,9 @@ use Rattle.counterterm_report.specs.Report.{IsTreeText, AreTreeTexts, IsEquation
 pub written_after : (start before piece now new : List ℕ) → now ≡ start ++ before → new ≡ now ++ piece → new ≡ start ++ (before ++ piece)
 written_after start before piece now new e f = f ∙ ap (λ l. l ++ piece) e ∙ append_assoc start before piece
 
-trees-push : (eq : Equation) (i n : ℕ) (vs : List TreeValues) (v : TreeValues) (text last : List ℕ) → n ≡ i + length vs → AreTreeTexts eq i vs text → IsTreeText eq n v last → AreTreeTexts eq i (vs ++ v ∷ []) (text ++ last)
+trees-push : (eq : Equation) (i n : ℕ) (vs : List TreeValues) (v : TreeValues) (text last : List ℕ) →
+    n ≡ i + length vs → AreTreeTexts eq i vs text → IsTreeText eq n v last →
+    AreTreeTexts eq i (vs ++ v ∷ []) (text ++ last)
 trees-push eq i n [] v text last e p h =
     let same : n ≡ i = omega (arith, e) in
     (last, [], subst (λ (m : ℕ). IsTreeText eq m v last) same h, refl, ap (λ l. l ++ last) p ∙ sym (append-nil last))
@@ -24,7 +26,8 @@ trees-next eq vs i v text last lt is p h =
     let number : i + 1 ≡ 1 + length (take i vs) = omega (arith, length-take-le i vs (omega (arith, lt))) in
     subst (λ ws. AreTreeTexts eq 1 ws (text ++ last)) (sym (take_more vs i v lt ∙ ap (λ x. take i vs ++ x ∷ []) (sym is))) (trees-push eq 1 (i + 1) (take i vs) v text last number p h)
 
-equations-push : (eq : Equation) (i n : ℕ) (us : List Unknown) (u : Unknown) (vs : List TreeValues) (text last : List ℕ) → n ≡ i + length us → AreEquationTexts eq i us vs text → IsEquationText eq n u.kernel.0 vs last
+equations-push : (eq : Equation) (i n : ℕ) (us : List Unknown) (u : Unknown) (vs : List TreeValues) (text last : List ℕ) →
+    n ≡ i + length us → AreEquationTexts eq i us vs text → IsEquationText eq n u.kernel.0 vs last
     → AreEquationTexts eq i (us ++ u ∷ []) vs (text ++ last)
 equations-push eq i n [] u vs text last e p h =
     let same : n ≡ i = omega (arith, e) in

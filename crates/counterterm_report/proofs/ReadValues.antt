@@ -60,19 +60,27 @@ module _ (ty : Types) (text : List ℕ) (mass : ℤ) (ts : List PlainTerm) (v : 
       omega (arith, ints, w, v.polynomial.within)
 
   -- the polynomial with its own mass is that of the value
-  pub not_small : (ds rest : List ℕ) (z : ℤ) (p : Poly) → Some (ds, rest) ≡ value_parts text → ((n : ℕ) → n < overflow → numeral n ≡ ds → Some z ≡ Some (pos n)) → p.mass ≡ pos (size_of (terms_of p.terms)) → terms_of p.terms ≡ ts → z <ℤ p.mass → ⊥
+  pub not_small : (ds rest : List ℕ) (z : ℤ) (p : Poly) → Some (ds, rest) ≡ value_parts text →
+      ((n : ℕ) → n < overflow → numeral n ≡ ds → Some z ≡ Some (pos n)) →
+      p.mass ≡ pos (size_of (terms_of p.terms)) → terms_of p.terms ≡ ts → z <ℤ p.mass → ⊥
   not_small ds rest z p e back own same small =
       let is = mass_is ds rest z e back in
       let size : size_of (terms_of p.terms) ≡ size_of ts = ap size_of same in
       omega (arith, ints, is, size, own, small, v.polynomial.within)
 
-  pub read_is : (ds rest : List ℕ) (z : ℤ) (p : Poly) (q : Result Poly ReportError) → Some (ds, rest) ≡ value_parts text → ((n : ℕ) → n < overflow → numeral n ≡ ds → Some z ≡ Some (pos n)) → p.mass ≡ pos (size_of (terms_of p.terms)) → terms_of p.terms ≡ ts
+  pub read_is : (ds rest : List ℕ) (z : ℤ) (p : Poly) (q : Result Poly ReportError) →
+      Some (ds, rest) ≡ value_parts text →
+      ((n : ℕ) → n < overflow → numeral n ≡ ds → Some z ≡ Some (pos n)) →
+      p.mass ≡ pos (size_of (terms_of p.terms)) → terms_of p.terms ≡ ts
       → IfOk q (λ x. (x.mass ≡ z) × (x.terms ≡ p.terms) × (p.mass ≤ℤ z)) → IfErr q (λ e. (e ≡ report_error.ValueText) × (z <ℤ p.mass)) → IsReadValue q mass ts
   read_is ds rest z p (Ok x) e back own same value small = (value.0 ∙ mass_is ds rest z e back, ap terms_of value.1 ∙ same)
   read_is ds rest z p (Err f) e back own same value small = absurd (not_small ds rest z p e back own same small.1)
 
 -- what is read is a value
-pub value_read : (ty : Types) (z : ℤ) (p : Poly) (q : Result Poly ReportError) → IsValue ty p.mass (terms_of p.terms) → IfOk q (λ x. (x.mass ≡ z) × (x.terms ≡ p.terms) × (p.mass ≤ℤ z)) → IfOk q (λ x. IsValue ty x.mass (terms_of x.terms))
+pub value_read : (ty : Types) (z : ℤ) (p : Poly) (q : Result Poly ReportError) →
+    IsValue ty p.mass (terms_of p.terms) →
+    IfOk q (λ x. (x.mass ≡ z) × (x.terms ≡ p.terms) × (p.mass ≤ℤ z)) →
+    IfOk q (λ x. IsValue ty x.mass (terms_of x.terms))
 value_read ty z p (Err f) h value = tt
 value_read ty z p (Ok x) h value =
     let old = rw (sym value.1) at h in
@@ -81,7 +89,9 @@ value_read ty z p (Ok x) h value =
       expectations = old.expectations;
     }
 
-pub text_read : (ty : Types) (text ds rest : List ℕ) (z : ℤ) (p : Poly) (q : Result Poly ReportError) → Some (ds, rest) ≡ value_parts text → numeral (unsigned_abs z) ≡ ds → poly_text ty [] (terms_of p.terms) ≡ rest
+pub text_read : (ty : Types) (text ds rest : List ℕ) (z : ℤ) (p : Poly) (q : Result Poly ReportError) →
+    Some (ds, rest) ≡ value_parts text → numeral (unsigned_abs z) ≡ ds →
+    poly_text ty [] (terms_of p.terms) ≡ rest
     → IfOk q (λ x. (x.mass ≡ z) × (x.terms ≡ p.terms) × (p.mass ≤ℤ z)) → IfOk q (λ x. value_text ty x.mass (terms_of x.terms) ≡ text)
 text_read ty text ds rest z p (Err f) e d t value = tt
 text_read ty text ds rest z p (Ok x) e d t value =
@@ -90,7 +100,8 @@ text_read ty text ds rest z p (Ok x) e d t value =
     append_assoc (numeral (unsigned_abs x.mass)) (32 ∷ []) (poly_text ty [] (terms_of x.terms)) ∙ (λ i. digits i ++ 32 ∷ poly i) ∙ whole text ds rest e
 
 -- a refusal for another cause than memory
-pub refused_read : (ty : Types) (text : List ℕ) (q : Result Poly ReportError) → ((mass : ℤ) (ts : List PlainTerm) → IsValue ty mass ts → IsInRange mass → value_text ty mass ts ≡ text → IsReadValue q mass ts)
+pub refused_read : (ty : Types) (text : List ℕ) (q : Result Poly ReportError) →
+    ((mass : ℤ) (ts : List PlainTerm) → IsValue ty mass ts → IsInRange mass → value_text ty mass ts ≡ text → IsReadValue q mass ts)
     → IfErr q (λ e. e ≡ report_error.ValueText → IsNoValueText ty text)
 refused_read ty text (Ok x) back = tt
 refused_read ty text (Err f) back = λ e mass ts v r t. let w : report_error.ValueText ≡ report_error.Memory = sym e ∙ back mass ts v r t in absurd cc

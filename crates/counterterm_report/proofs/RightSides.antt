@@ -1,4 +1,5 @@
--- The right sides of an equation: their terms have monomials, their sums are in range, and their symbols are those of the equation.
+-- The right sides of an equation: their terms have monomials, their sums are in range, and their
+-- symbols are those of the equation.
 use Rattle.std.proofs.Common.{◌≡◌, ℕ, zero, suc, ◌*◌, ◌<◌, ◌≤◌, ◌==◌, ℤ, pos, Bool, true, false, cond, List, [], ◌∷◌, length, map, Some, None, Option, Ok, Err, Result, arith, refl, ap, subst, ◌∙◌, unsigned_abs}
 use Rattle.std.specs.Prelude.{option_map, slice_get, IfOk, IfErr, IsOkUnless}
 use Rattle.std.specs.List.{All, AllByRecursion}
@@ -110,12 +111,16 @@ module _ (ty : Types) (ps : List (List ℕ)) where
   over-terms [] h o = tt
   over-terms (t ∷ ts) h o = (record { over = o.0; trees = h.0.trees }, over-terms ts h.1 o.1)
 
-pub right-printed : (eq : Equation) (k : ℕ) (mass : ℤ) (ts : List PlainTerm) → IsEquation eq → IsPolynomial mass ts → HaveSameCoefficients ts (right_terms eq k) → AllByRecursion (IsTermOver eq.types eq.parameters) ts
+pub right-printed : (eq : Equation) (k : ℕ) (mass : ℤ) (ts : List PlainTerm) → IsEquation eq →
+    IsPolynomial mass ts → HaveSameCoefficients ts (right_terms eq k) →
+    AllByRecursion (IsTermOver eq.types eq.parameters) ts
 right-printed eq k mass ts h p same =
     over-terms eq.types eq.parameters ts p.each
     (collected-all (λ m. AllByRecursion (IsOver eq.types eq.parameters) m) mass ts (right_terms eq k) p same (over-side eq.types eq.parameters k eq.unknowns h.unknowns))
 
-pub right-sum : (eq : Equation) (k : ℕ) (mass : ℤ) (ts : List PlainTerm) → IsPolynomial mass ts → HaveSameCoefficients ts (right_terms eq k) → mass ≡ pos (size_of (right_terms eq k)) → IsSumOf (right_terms eq k) ts
+pub right-sum : (eq : Equation) (k : ℕ) (mass : ℤ) (ts : List PlainTerm) → IsPolynomial mass ts →
+    HaveSameCoefficients ts (right_terms eq k) → mass ≡ pos (size_of (right_terms eq k)) →
+    IsSumOf (right_terms eq k) ts
 right-sum eq k mass ts p same is = record {
   ascending = p.ascending;
   not_zero = p.not_zero;
@@ -124,17 +129,24 @@ right-sum eq k mass ts p same is = record {
 }
 
 -- what the call answers
-pub sum_is : (eq : Equation) (k : ℕ) (us : List PlainTerm) (r : Result Poly PolyError) → us ≡ right_terms eq k → IfOk r IsPoly → IfOk r (λ p. HaveSameCoefficients (terms_of p.terms) us) → IfOk r (λ p. p.mass ≡ pos (size_of us))
+pub sum_is : (eq : Equation) (k : ℕ) (us : List PlainTerm) (r : Result Poly PolyError) →
+    us ≡ right_terms eq k → IfOk r IsPoly →
+    IfOk r (λ p. HaveSameCoefficients (terms_of p.terms) us) →
+    IfOk r (λ p. p.mass ≡ pos (size_of us))
     → IfOk r (λ p. IsSumOf (right_terms eq k) (terms_of p.terms))
 sum_is eq k us (Ok p) is h same mass =
     right-sum eq k p.mass (terms_of p.terms) h (subst (λ ts. HaveSameCoefficients (terms_of p.terms) ts) is same) (mass ∙ ap (λ ts. pos (size_of ts)) is)
 sum_is eq k us (Err e) is h same mass = tt
 
-pub printed_is : (eq : Equation) (k : ℕ) (us : List PlainTerm) (r : Result Poly PolyError) → IsEquation eq → us ≡ right_terms eq k → IfOk r IsPoly → IfOk r (λ p. HaveSameCoefficients (terms_of p.terms) us) → IfOk r (IsPrinted eq)
+pub printed_is : (eq : Equation) (k : ℕ) (us : List PlainTerm) (r : Result Poly PolyError) →
+    IsEquation eq → us ≡ right_terms eq k → IfOk r IsPoly →
+    IfOk r (λ p. HaveSameCoefficients (terms_of p.terms) us) → IfOk r (IsPrinted eq)
 printed_is eq k us (Ok p) h is poly same = right-printed eq k p.mass (terms_of p.terms) h poly (subst (λ ts. HaveSameCoefficients (terms_of p.terms) ts) is same)
 printed_is eq k us (Err e) h is poly same = tt
 
-pub memory_alone : (eq : Equation) (k : ℕ) (us : List PlainTerm) (r : Result Poly PolyError) → IsEquation eq → us ≡ right_terms eq k → IfErr r (IsRefused (overflow ≤ size_of us)) → IsOkUnless r Memory
+pub memory_alone : (eq : Equation) (k : ℕ) (us : List PlainTerm) (r : Result Poly PolyError) →
+    IsEquation eq → us ≡ right_terms eq k → IfErr r (IsRefused (overflow ≤ size_of us)) →
+    IsOkUnless r Memory
 memory_alone eq k us (Ok p) h is refused = tt
 memory_alone eq k us (Err CoefficientTooLarge) h is refused = absurd (omega (arith, right-size eq k h, subst (λ ts. overflow ≤ size_of ts) is refused))
 memory_alone eq k us (Err PolyText) h is refused = absurd refused

@@ -38,7 +38,9 @@ module _ (ty : Types) (ps : List (List ℕ)) where
   over_symbols [] h = tt
   over_symbols (s ∷ m) h = (over_symbol s h.0, over_symbols m h.1)
 
-  over_terms : (ts : List PlainTerm) → AllByRecursion IsMonomial (monomials ts) → AllByRecursion (λ t. AllByRecursion (IsExpectation ty) t.symbols) ts → AllByRecursion (IsTermOver ty ps) ts
+  over_terms : (ts : List PlainTerm) → AllByRecursion IsMonomial (monomials ts) →
+      AllByRecursion (λ t. AllByRecursion (IsExpectation ty) t.symbols) ts →
+      AllByRecursion (IsTermOver ty ps) ts
   over_terms [] m h = tt
   over_terms (t ∷ ts) m h = (record { over = over_symbols t.symbols h.0; trees = m.0.trees }, over_terms ts m.1 h.1)
 
@@ -61,7 +63,9 @@ module _ (ty : Types) where
   symbols_are [] h b = tt
   symbols_are (s ∷ m) h b = (symbol_is s h.0 b.0, symbols_are m h.1 b.1)
 
-  terms_are : (ts : List PlainTerm) → AllByRecursion IsMonomial (monomials ts) → AllByRecursion (λ t. AllByRecursion (IsExpectation ty) t.symbols) ts → AllByRecursion (λ t. AllByRecursion (IsSymbolOf ty []) t.symbols) ts
+  terms_are : (ts : List PlainTerm) → AllByRecursion IsMonomial (monomials ts) →
+      AllByRecursion (λ t. AllByRecursion (IsExpectation ty) t.symbols) ts →
+      AllByRecursion (λ t. AllByRecursion (IsSymbolOf ty []) t.symbols) ts
   terms_are [] m h = tt
   terms_are (t ∷ ts) m h = (symbols_are t.symbols h.0 m.0.trees, terms_are ts m.1 h.1)
 
@@ -103,20 +107,25 @@ module _ (ty : Types) where
       let t = and_parts (is_expectation s) (list_all is_expectation m) e in
       (true_expectation s t.0 h.0, true_all m t.1 h.1)
 
-  true_expectations : (ts : List PlainTerm) → are_expectations ts ≡ true → AllByRecursion (λ t. AllByRecursion (IsSymbolOf ty []) t.symbols) ts → AllByRecursion (λ t. AllByRecursion (IsExpectation ty) t.symbols) ts
+  true_expectations : (ts : List PlainTerm) → are_expectations ts ≡ true →
+      AllByRecursion (λ t. AllByRecursion (IsSymbolOf ty []) t.symbols) ts →
+      AllByRecursion (λ t. AllByRecursion (IsExpectation ty) t.symbols) ts
   true_expectations [] e h = tt
   true_expectations (t ∷ ts) e h =
       let both = and_parts (list_all is_expectation t.symbols) (are_expectations ts) e in
       (true_all t.symbols both.0 h.0, true_expectations ts both.1 h.1)
 
-  pub text_is_value : (mass : ℤ) (ts : List PlainTerm) (text : List ℕ) → IsPolynomial mass ts → IsTextOf ty [] text ts → are_expectations ts ≡ true → IsValue ty mass ts
+  pub text_is_value : (mass : ℤ) (ts : List PlainTerm) (text : List ℕ) → IsPolynomial mass ts →
+      IsTextOf ty [] text ts → are_expectations ts ≡ true → IsValue ty mass ts
   text_is_value mass ts text p h e = record { polynomial = p; expectations = true_expectations ts e h.symbols }
 
 -- the sum of the absolute coefficients is in range
 pub value_size : (ty : Types) (mass : ℤ) (ts : List PlainTerm) → IsValue ty mass ts → unsigned_abs mass < overflow → size_of ts < overflow
 value_size ty mass ts h r = omega (arith, ints, h.polynomial.within, r)
 
-pub fault_read : (e : PolyError) (r : ReportError) (ts : List PlainTerm) → (e ≡ poly_error.Memory → r ≡ report_error.Memory) → size_of ts < overflow → IsReadAs (Err e) ts → r ≡ report_error.Memory
+pub fault_read : (e : PolyError) (r : ReportError) (ts : List PlainTerm) →
+    (e ≡ poly_error.Memory → r ≡ report_error.Memory) → size_of ts < overflow →
+    IsReadAs (Err e) ts → r ≡ report_error.Memory
 fault_read poly_error.CoefficientTooLarge r ts h small is = absurd (omega (arith, small, is))
 fault_read poly_error.PolyText r ts h small is = absurd is
 fault_read poly_error.Memory r ts h small is = h refl
@@ -134,7 +143,9 @@ prefix_digits (d ∷ ds) rest h =
 parts_of : (ds rest : List ℕ) → AllDigits 10 ds → value_parts (ds ++ 32 ∷ rest) ≡ Some (ds, rest)
 parts_of ds rest h = rw (prefix_digits ds rest h, take-append_seam ds (32 ∷ rest), drop-append_seam ds (32 ∷ rest)) refl
 
-pub text_parts : (ty : Types) (mass : ℤ) (ts : List PlainTerm) (text : List ℕ) → value_text ty mass ts ≡ text → value_parts text ≡ Some (numeral (unsigned_abs mass), poly_text ty [] ts)
+pub text_parts : (ty : Types) (mass : ℤ) (ts : List PlainTerm) (text : List ℕ) →
+    value_text ty mass ts ≡ text →
+    value_parts text ≡ Some (numeral (unsigned_abs mass), poly_text ty [] ts)
 text_parts ty mass ts text e =
     ap value_parts (sym e ∙ append_assoc (numeral (unsigned_abs mass)) (32 ∷ []) (poly_text ty [] ts)) ∙ parts_of (numeral (unsigned_abs mass)) (poly_text ty [] ts) (numeral_digits (unsigned_abs mass)).digits
 
@@ -143,7 +154,8 @@ abbrev pub part_of : Option (List ℕ × List ℕ) → List ℕ × List ℕ
 part_of None = ([], [])
 part_of (Some x) = x
 
-pub value_exact : (ty : Types) (m n : ℤ) (ts us : List PlainTerm) → AreTypes ty → IsValue ty m ts → IsValue ty n us → value_text ty m ts ≡ value_text ty n us → (m ≡ n) × (ts ≡ us)
+pub value_exact : (ty : Types) (m n : ℤ) (ts us : List PlainTerm) → AreTypes ty → IsValue ty m ts →
+    IsValue ty n us → value_text ty m ts ≡ value_text ty n us → (m ≡ n) × (ts ≡ us)
 value_exact ty m n ts us types h k e =
     let parts : ◌≡◌ {A = Option (List ℕ × List ℕ)} (Some (numeral (unsigned_abs m), poly_text ty [] ts)) (Some (numeral (unsigned_abs n), poly_text ty [] us))
     = sym (text_parts ty m ts (value_text ty m ts) refl) ∙ ap value_parts e ∙ text_parts ty n us (value_text ty n us) refl in

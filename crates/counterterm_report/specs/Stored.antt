@@ -1,10 +1,17 @@
 -- The text of a stored value, and how it is read.
+-- What contracts of public calls say:
 --   value_text ty mass ts == the mass, a space, and the polynomial
 --   IsInRange mass == the mass is at most 2^127-1
---   IsReadValue r mass ts == r answers the polynomial with these terms and this mass, unless memory is wanted
---   IsReadPoly r ts == r answers the polynomial with these terms, unless memory is wanted
+--   IsReadValue r mass ts == r answers the polynomial with these terms and this mass, unless memory
+--       is wanted
 --   IsNoValueText ty text == text is not the one of a value
---   value_parts text == the digits at the front of text and what stands behind the space after them, where there is one
+-- Working notions of the code and of proofs:
+--   IsReadPoly r ts == r answers the polynomial with these terms, unless memory is wanted
+--   behind_space digits text == the digits, and what stands behind the space at the front of text,
+--       where there is one
+--   value_parts text == the digits at the front of text and what stands behind the space after
+--       them, where there is one
+--   is_expectation s == the symbol s is the expectation of a tree
 --   are_expectations ts == all symbols of the terms are expectations
 use Rattle.std.specs.Prelude.{◌≡◌, ◌<◌, ◌==◌, ℕ, ℤ, Bool, true, false, if◌then◌else◌, List, [], ◌∷◌, ◌++◌, codes, take, drop, Option, Some, None, unsigned_abs, MatchResult, Result}
 use Rattle.std.specs.Char.{is_ascii_digit}
@@ -28,13 +35,15 @@ abbrev pub IsInRange : ℤ → Type 0
 IsInRange mass = unsigned_abs mass < overflow
 
 abbrev pub IsReadValue : Result Poly ReportError → ℤ → List PlainTerm → Type 0
-IsReadValue r mass ts = MatchResult r (λ p. (p.mass ≡ mass) × (terms_of p.terms ≡ ts)) (λ e. e ≡ Memory)
+IsReadValue r mass ts =
+    MatchResult r (λ p. (p.mass ≡ mass) × (terms_of p.terms ≡ ts)) (λ e. e ≡ Memory)
 
 abbrev pub IsReadPoly : Result Poly ReportError → List PlainTerm → Type 0
 IsReadPoly r ts = MatchResult r (λ p. terms_of p.terms ≡ ts) (λ e. e ≡ Memory)
 
 abbrev pub IsNoValueText : Types → List ℕ → Type 0
-IsNoValueText ty text = (mass : ℤ) (ts : List PlainTerm) → IsValue ty mass ts → IsInRange mass → value_text ty mass ts ≡ text → ⊥
+IsNoValueText ty text = (mass : ℤ) (ts : List PlainTerm) → IsValue ty mass ts → IsInRange mass →
+    value_text ty mass ts ≡ text → ⊥
 
 -- behind the digits
 abbrev pub behind_space : List ℕ → List ℕ → Option (List ℕ × List ℕ)
@@ -42,7 +51,8 @@ behind_space digits [] = None
 behind_space digits (c ∷ rest) = if c == 32 then Some (digits, rest) else None
 
 abbrev pub value_parts : List ℕ → Option (List ℕ × List ℕ)
-value_parts text = behind_space (take (prefix_len is_ascii_digit text) text) (drop (prefix_len is_ascii_digit text) text)
+value_parts text = behind_space (take (prefix_len is_ascii_digit text) text)
+    (drop (prefix_len is_ascii_digit text) text)
 
 abbrev pub is_expectation : PlainSymbol → Bool
 is_expectation (parameter i) = false

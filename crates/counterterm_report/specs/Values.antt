@@ -1,9 +1,12 @@
 -- What is reported of an equation, and what is stored of a tree.
 --   IsExpectation ty s == s is the expectation of a tree over the types
---   IsValue ty mass ts == ts are the terms of a polynomial with this mass over such expectations: what is stored as the constant of a tree
+--   IsValue ty mass ts == ts are the terms of a polynomial with this mass over such expectations:
+--       what is stored as the constant of a tree
 --   IsPrinted eq p == the symbols of the polynomial p are named by the equation
---   IsTreeValues eq v == the tree of v can be printed, and so can its constant and its differentials, of which there is one for each unknown
---   AreReportValues eq vs == both rules have one row for each kernel, the completed one over the types of the equation, and each tree has its values
+--   IsTreeValues eq v == the tree of v can be printed, and so can its constant and its
+--       differentials, of which there is one for each unknown
+--   AreReportValues eq vs == both rules have one row for each kernel, the completed one over the
+--       types of the equation, and each tree has its values
 use Rattle.std.specs.Prelude.{◌≡◌, ℤ, List, length}
 use Rattle.std.specs.List.{All, AllByRecursion}
 use Rattle.degree_numbers.specs.declared.types.Types.{Types}

@@ -1,4 +1,5 @@
-//! The report of an equation, with its renormalised equation, and the text of a stored constant.
+//! The report of an equation, with its renormalised equation, and the text of a stored constant. It
+//! prints the values that it is handed; `tree_values`, above it, computes them.
 #![tactic(auto)]
 
 mod error;

@@ -30,7 +30,8 @@ fn put_product(
     differential: &[u8],
     denominator: u128,
 ) -> Result<(), AllocError>
-    ensures { OnOk result (out.new.items ≡ out.old.items ++ product_line constant.now differential.now denominator) }
+    ensures { OnOk result (out.new.items ≡ out.old.items
+        ++ product_line constant.now differential.now denominator) }
 {
     out.extend_from_slice(b"  +(")?;
     out.extend_from_slice(constant)?;
@@ -52,7 +53,8 @@ fn put_counterterm(
     requires types { AreTypes eq.now.types }
     requires constant { IsPrinted eq.now constant.now }
     requires differential { IsPrinted eq.now d.now.poly }
-    ensures { OnOk result (out.new.items ≡ out.old.items ++ counterterm_line eq.now constant.now (Some d.now)) }
+    ensures { OnOk result (out.new.items ≡ out.old.items
+        ++ counterterm_line eq.now constant.now (Some d.now)) }
 {
     if is_zero(constant) || is_zero(&d.poly) {
         return Ok(());
@@ -89,7 +91,8 @@ fn put_counterterms(
 ) -> Result<(), AllocError>
     requires types { AreTypes eq.now.types }
     requires values { All (IsTreeValues eq.now) trees.now }
-    ensures { OnOk result (out.new.items ≡ out.old.items ++ counterterm_lines eq.now number trees.now) }
+    ensures { OnOk result (out.new.items ≡ out.old.items
+        ++ counterterm_lines eq.now number trees.now) }
 {
     for v in trees {
         put_counterterm_at(out, alloc, eq, number, v)?;
@@ -118,7 +121,8 @@ fn put_equation(
 ) -> Result<(), AllocError>
     requires equation { IsEquation eq.now }
     requires values { All (IsTreeValues eq.now) trees.now }
-    ensures { OnOk result ((piece : List ℕ) × IsEquationText eq.now number kernel.0 trees.now piece × (out.new.items ≡ out.old.items ++ piece)) }
+    ensures { OnOk result ((piece : List ℕ) × IsEquationText eq.now number kernel.0 trees.now piece
+        × (out.new.items ≡ out.old.items ++ piece)) }
 {
     let Ok(side) = right_side(alloc, eq, kernel) else {
         return Err(AllocError);
@@ -140,7 +144,8 @@ pub(crate) fn put_equations(
 ) -> Result<(), AllocError>
     requires equation { IsEquation eq.now }
     requires values { All (IsTreeValues eq.now) trees.now }
-    ensures { OnOk result ((piece : List ℕ) × AreEquationTexts eq.now 0 unknowns.now trees.now piece × (out.new.items ≡ out.old.items ++ piece)) }
+    ensures { OnOk result ((piece : List ℕ) × AreEquationTexts eq.now 0 unknowns.now trees.now piece
+        × (out.new.items ≡ out.old.items ++ piece)) }
 {
     for i in 0..unknowns.len() {
         put_equation(out, alloc, eq, i, unknowns[i].kernel, trees)?;

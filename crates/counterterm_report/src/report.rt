@@ -12,9 +12,12 @@ use crate::values::ReportValues;
 use equations::Equation;
 use std::alloc::Global;
 
-/// The report of an equation with these values: the numbers of node types of both rules and the node types of the completed one; each tree with its degree, its
-/// symmetry factor, its constant and its differentials; and for each unknown the renormalised equation (Bruned, Chandra, Chevyrev, Hairer): the right side over the
-/// common denominator of its coefficients, and one counterterm for each tree whose constant and differential are not 0. Fails only for want of memory.
+/// The report of an equation with these values: the numbers of node types of both rules and the
+/// node types of the completed one; each tree with its degree, its symmetry factor, its constant
+/// and its differentials; and for each unknown the renormalised equation (Bruned, Chandra,
+/// Chevyrev, Hairer): the right side over the common denominator of its coefficients, and one
+/// counterterm for each tree whose constant and differential are not 0. Fails only for want of
+/// memory.
 pub fn print_report(
     alloc: Global,
     eq: &Equation,

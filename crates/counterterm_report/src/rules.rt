@@ -69,7 +69,8 @@ pub(crate) fn put_rules(
     requires types { AreTypes types.now }
     requires known { AreKnown types.now completed.now }
     requires same { length base.now ≡ length completed.now }
-    ensures { OnOk result (out.new.items ≡ out.old.items ++ rule_lines types.now base.now completed.now) }
+    ensures { OnOk result (out.new.items ≡ out.old.items
+        ++ rule_lines types.now base.now completed.now) }
 {
     for i in 0..completed.len() {
         put_row(out, types, base[i].nodes.len(), &completed[i])?;

@@ -19,11 +19,13 @@ use numerals::{is_numeral, magnitude, put_number};
 use std::alloc::Global;
 use symbol_polys::{Poly, PolyError, Symbol, Term, print_poly, read_poly};
 
-/// The text of a constant as it is stored: its mass, a space, and the polynomial: `1 -E[xi*u[xi]]`. Fails only for want of memory.
+/// The text of a constant as it is stored: its mass, a space, and the polynomial: `1 -E[xi*u[xi]]`.
+/// Fails only for want of memory.
 pub fn print_value(alloc: Global, types: &Types, constant: &Poly) -> Result<Vec<u8>, ReportError>
     requires types { AreTypes types.now }
     requires value { IsValue types.now constant.now.mass (terms_of constant.now.terms) }
-    ensures text { IfOk result (λ v. v.items ≡ value_text types.now constant.now.mass (terms_of constant.now.terms)) }
+    ensures text { IfOk result (λ v. v.items ≡ value_text types.now constant.now.mass
+        (terms_of constant.now.terms)) }
     ensures memory { IsOkUnless result ReportError.Memory }
 {
     let Ok(text) = print_poly(alloc, types, &[], constant) else {
@@ -63,7 +65,8 @@ fn in_range(value: Saturated) -> Option<i128>
 
 // The mass with these digits, where it is in range.
 fn mass_of(digits: &[u8]) -> Option<i128>
-    ensures value { IfSome result (λ z. (z ≡ pos (unsigned_abs z)) × (numeral (unsigned_abs z) ≡ digits.now)) }
+    ensures value { IfSome result (λ z. (z ≡ pos (unsigned_abs z))
+        × (numeral (unsigned_abs z) ≡ digits.now)) }
     ensures back { (n : ℕ) → n < overflow → numeral n ≡ digits.now → result ≡ Some (pos n) }
 {
     if digits == b"0".as_slice() {
@@ -122,7 +125,8 @@ fn read_expectations(alloc: Global, types: &Types, text: &[u8]) -> Result<Poly, 
     ensures value { IfOk result (λ p. IsValue types.now p.mass (terms_of p.terms)) }
     ensures mass { IfOk result (λ p. p.mass ≡ pos (size_of (terms_of p.terms))) }
     ensures text { IfOk result (λ p. poly_text types.now [] (terms_of p.terms) ≡ text.now) }
-    ensures back { (mass : ℤ) (ts : List PlainTerm) → IsValue types.now mass ts → IsInRange mass → poly_text types.now [] ts ≡ text.now → IsReadPoly result ts }
+    ensures back { (mass : ℤ) (ts : List PlainTerm) → IsValue types.now mass ts → IsInRange mass →
+        poly_text types.now [] ts ≡ text.now → IsReadPoly result ts }
 {
     let p = match read_poly(alloc, types, &[], text) {
         Ok(p) => p,
@@ -148,15 +152,18 @@ fn with_mass(p: Poly, mass: i128) -> Result<Poly, ReportError>
     })
 }
 
-/// Reads the text of a stored constant, as `print_value` writes it. Fails with `ValueText` exactly where the text is not the one that is printed for a polynomial
-/// over expectations of trees, with a mass of at most 2^127-1 that is at least the sum of its absolute coefficients; and for want of memory. So `1 0` is read, and
-/// `00 0`, `1 0 ` and `0 E[]` are refused.
+/// Reads the text of a stored constant, as `print_value` writes it. Fails with `ValueText` exactly
+/// where the text is not the one that is printed for a polynomial over expectations of trees, with
+/// a mass of at most 2^127-1 that is at least the sum of its absolute coefficients; and for want of
+/// memory. So `1 0` is read, and `00 0`, `1 0 ` and `0 E[]` are refused.
 pub fn read_value(alloc: Global, types: &Types, text: &[u8]) -> Result<Poly, ReportError>
     requires types { AreTypes types.now }
     ensures value { IfOk result (λ p. IsValue types.now p.mass (terms_of p.terms)) }
     ensures text { IfOk result (λ p. value_text types.now p.mass (terms_of p.terms) ≡ text.now) }
-    ensures refusal { IfErr result (λ e. e ≡ ReportError.ValueText → IsNoValueText types.now text.now) }
-    ensures back { (mass : ℤ) (ts : List PlainTerm) → IsValue types.now mass ts → IsInRange mass → value_text types.now mass ts ≡ text.now → IsReadValue result mass ts }
+    ensures refusal { IfErr result (λ e. e ≡ ReportError.ValueText →
+        IsNoValueText types.now text.now) }
+    ensures back { (mass : ℤ) (ts : List PlainTerm) → IsValue types.now mass ts → IsInRange mass →
+        value_text types.now mass ts ≡ text.now → IsReadValue result mass ts }
 {
     let Some((digits, rest)) = value_parts(text) else {
         return Err(ReportError::ValueText);
@@ -170,8 +177,12 @@ pub fn read_value(alloc: Global, types: &Types, text: &[u8]) -> Result<Poly, Rep
     }
 }
 
-/// Every value can be printed beside the parameters of an equation; and a text is that of one value at most.
+/// Every value can be printed beside the parameters of an equation; and a text is that of one value
+/// at most.
 pub fn value_laws()
-    ensures printed { (ty : Types) (ps : List (List ℕ)) (mass : ℤ) (ts : List PlainTerm) → IsValue ty mass ts → AllByRecursion (IsTermOver ty ps) ts }
-    ensures exact { (ty : Types) (m n : ℤ) (ts us : List PlainTerm) → AreTypes ty → IsValue ty m ts → IsValue ty n us → value_text ty m ts ≡ value_text ty n us → (m ≡ n) × (ts ≡ us) }
+    ensures printed { (ty : Types) (ps : List (List ℕ)) (mass : ℤ) (ts : List PlainTerm) →
+        IsValue ty mass ts → AllByRecursion (IsTermOver ty ps) ts }
+    ensures exact { (ty : Types) (m n : ℤ) (ts us : List PlainTerm) → AreTypes ty →
+        IsValue ty m ts → IsValue ty n us → value_text ty m ts ≡ value_text ty n us →
+        (m ≡ n) × (ts ≡ us) }
 {}

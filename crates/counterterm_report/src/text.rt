@@ -26,7 +26,8 @@ pub fn put_named_line(
     name: &[u8],
     text: &[u8],
 ) -> Result<(), AllocError>
-    ensures { OnOk result (out.new.items ≡ out.old.items ++ named_line label.now name.now text.now) }
+    ensures { OnOk result (out.new.items ≡ out.old.items
+        ++ named_line label.now name.now text.now) }
 {
     out.extend_from_slice(label)?;
     out.extend_from_slice(name)?;

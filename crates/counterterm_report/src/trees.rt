@@ -35,7 +35,8 @@ fn put_heading(
     requires types { AreTypes types.now }
     requires tree { HasTypes types.now (plain tree.now) }
     requires small { IsSmall (plain tree.now) }
-    ensures { OnOk result (out.new.items ≡ out.old.items ++ named_line (codes "tree ") (decimal number) (tree_text types.now (plain tree.now))) }
+    ensures { OnOk result (out.new.items ≡ out.old.items
+        ++ named_line (codes "tree ") (decimal number) (tree_text types.now (plain tree.now))) }
 {
     let Ok(text) = print_tree(alloc, types, tree) else {
         return Err(AllocError);
@@ -80,7 +81,8 @@ pub fn put_differentials(
     requires types { AreTypes eq.now.types }
     requires printed { All (λ d. IsPrinted eq.now d.poly) values.now }
     requires each { length values.now ≡ length unknowns.now }
-    ensures { OnOk result (out.new.items ≡ out.old.items ++ differential_lines eq.now unknowns.now values.now) }
+    ensures { OnOk result (out.new.items ≡ out.old.items
+        ++ differential_lines eq.now unknowns.now values.now) }
 {
     for i in 0..values.len() {
         put_differential(out, alloc, eq, &unknowns[i], &values[i])?;
@@ -99,7 +101,8 @@ fn put_tree_lines(
 ) -> Result<(), AllocError>
     requires types { AreTypes eq.now.types }
     requires values { IsTreeValues eq.now v.now }
-    ensures { OnOk result (out.new.items ≡ out.old.items ++ tree_lines eq.now number degree.now v.now) }
+    ensures { OnOk result (out.new.items ≡ out.old.items
+        ++ tree_lines eq.now number degree.now v.now) }
 {
     put_heading(out, alloc, &eq.types, number, &v.tree)?;
     put_line(out, b"degree ", degree)?;
@@ -128,7 +131,8 @@ fn put_tree(
 ) -> Result<(), AllocError>
     requires types { AreTypes eq.now.types }
     requires values { IsTreeValues eq.now v.now }
-    ensures { OnOk result ((piece : List ℕ) × IsTreeText eq.now number v.now piece × (out.new.items ≡ out.old.items ++ piece)) }
+    ensures { OnOk result ((piece : List ℕ) × IsTreeText eq.now number v.now piece
+        × (out.new.items ≡ out.old.items ++ piece)) }
 {
     let degree = degree_text(&eq.types, v.degree);
     put_tree_lines(out, alloc, eq, number, degree.bytes(), v)?;
@@ -144,7 +148,8 @@ pub(crate) fn put_trees(
 ) -> Result<(), AllocError>
     requires types { AreTypes eq.now.types }
     requires values { All (IsTreeValues eq.now) trees.now }
-    ensures { OnOk result ((piece : List ℕ) × AreTreeTexts eq.now 1 trees.now piece × (out.new.items ≡ out.old.items ++ piece)) }
+    ensures { OnOk result ((piece : List ℕ) × AreTreeTexts eq.now 1 trees.now piece
+        × (out.new.items ≡ out.old.items ++ piece)) }
 {
     for i in 0..trees.len() {
         put_tree(out, alloc, eq, i + 1, &trees[i])?;

@@ -12,8 +12,8 @@ pub struct DiffValue {
     pub denominator: u128,
 }
 
-/// A listed tree with its degree, in units of one over the common denominator, its symmetry factor, its constant, and its differential for each unknown, in the
-/// order of the unknowns.
+/// A listed tree with its degree, in units of one over the common denominator, its symmetry factor,
+/// its constant, and its differential for each unknown, in the order of the unknowns.
 #[derive(Drop)]
 pub struct TreeValues {
     pub tree: Tree,
@@ -23,7 +23,8 @@ pub struct TreeValues {
     pub differentials: Items<DiffValue>,
 }
 
-/// What is reported of an equation: its normal rule, the completed one, and the listed trees of that with their values.
+/// What is reported of an equation: its normal rule, the completed one, and the listed trees of
+/// that with their values.
 #[derive(Drop)]
 pub struct ReportValues {
     pub base: Rule,

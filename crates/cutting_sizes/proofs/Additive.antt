@@ -36,7 +36,8 @@ module _ (f : List ℕ → ℕ) (g : ℕ → List ℕ → ℕ) (h : List ℕ →
   pub nodes-zeros : (n : List ℕ) → f (zeros n) ≡ 0
   nodes-zeros n = let e = additive.nodes (zeros n) (zeros n) in let z = ap f (zeros-twice n) in omega (arith, e, z)
 
-  pub forest-alone : (x : Entry) → has_edge x.part ≡ false → sum_over f g x.part ≡ 0 → total (sum_over f g) (forest_of x) ≡ total (sum_over f g) x.above + sum_over f g x.part
+  pub forest-alone : (x : Entry) → has_edge x.part ≡ false → sum_over f g x.part ≡ 0 →
+      total (sum_over f g) (forest_of x) ≡ total (sum_over f g) x.above + sum_over f g x.part
   forest-alone x e z = let same : total (sum_over f g) (forest_of x) ≡ total (sum_over f g) x.above = ap (λ b. total (sum_over f g) (cond b (x.part ∷ x.above) x.above)) e in omega (arith, same, z)
 
 pub forest-with : (s : Plain → ℕ) (x : Entry) → has_edge x.part ≡ true → total s (forest_of x) ≡ total s x.above + s x.part

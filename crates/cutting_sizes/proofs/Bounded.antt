@@ -57,12 +57,16 @@ bounded_parts k p c t b =
       record { edges = omega (arith, e); derivatives = omega (arith, d); decorations = omega (arith, n) },
     )
 
-all_bounded : (fs : List Plain) → total edge_count_of fs ≤ MOST_EDGES → total edge_sum fs ≤ MOST_LISTED_DECORATIONS → total node_sum fs ≤ MOST_NODE_DECORATIONS → AllByRecursion IsBounded fs
+all_bounded : (fs : List Plain) → total edge_count_of fs ≤ MOST_EDGES →
+    total edge_sum fs ≤ MOST_LISTED_DECORATIONS → total node_sum fs ≤ MOST_NODE_DECORATIONS →
+    AllByRecursion IsBounded fs
 all_bounded [] e d n = tt
 all_bounded (f ∷ fs) e d n =
     (record { edges = omega (arith, e); derivatives = omega (arith, d); decorations = omega (arith, n) }, all_bounded fs (omega (arith, e)) (omega (arith, d)) (omega (arith, n)))
 
-low_forest : (ty : Types) (fs : List Plain) → AreTypes ty → AreLowTyped ty fs → total edge_count_of fs ≤ MOST_EDGES → total edge_sum fs ≤ MOST_LISTED_DECORATIONS → total node_sum fs ≤ MOST_NODE_DECORATIONS
+low_forest : (ty : Types) (fs : List Plain) → AreTypes ty → AreLowTyped ty fs →
+    total edge_count_of fs ≤ MOST_EDGES → total edge_sum fs ≤ MOST_LISTED_DECORATIONS →
+    total node_sum fs ≤ MOST_NODE_DECORATIONS
 low_forest ty fs h a e d = let n = forest_nodes ty fs h a in omega (arith, n, e, d)
 
 module _ (ty : Types) (j : ℕ) (types : AreTypes ty) where
@@ -75,7 +79,8 @@ module _ (ty : Types) (j : ℕ) (types : AreTypes ty) where
   forest_good : (t : Plain) (e : Entry) → IsClosed good w t e → AllByRecursion (λ f. good f ≡ true) (forest_of e)
   forest_good = forest_all good w (λ f. good f ≡ true) (λ f e g. g)
 
-  pub closed_bounded : (t : Plain) (e : Entry) → IsClosed good w t e → HasTypes ty t → IsBounded t → AllByRecursion IsBounded (forest_of e) × HasAtMost most_quotient e.quotient
+  pub closed_bounded : (t : Plain) (e : Entry) → IsClosed good w t e → HasTypes ty t → IsBounded t →
+      AllByRecursion IsBounded (forest_of e) × HasAtMost most_quotient e.quotient
   closed_bounded t e m typed b =
       let fs = forest_of e in
       let up = closed_adds_up good w t e m in
@@ -94,13 +99,17 @@ module _ (ty : Types) (j : ℕ) (types : AreTypes ty) where
       )
 
   -- a live component
-  live_nodes : (b : Bool) (t : Plain) (e : Entry) (r : ℕ) → IsMade good w b t e → HasTypes ty e.part → r ≤ unsigned_abs ty.units.den * most_shift → IsLive ty r t e.part → node_sum e.part ≤ most_shift
+  live_nodes : (b : Bool) (t : Plain) (e : Entry) (r : ℕ) → IsMade good w b t e →
+      HasTypes ty e.part → r ≤ unsigned_abs ty.units.den * most_shift → IsLive ty r t e.part →
+      node_sum e.part ≤ most_shift
   live_nodes b t e r m typed most live =
       let l = above_low ty good w m in
       let n = nodes_least ty e.part types typed in
       le_of_mul-le-mul_left {k = unsigned_abs ty.units.den} (omega (arith, ints, l, n, most, live)) (den_some ty types)
 
-  pub live_bounded : (b : Bool) (t : Plain) (e : Entry) (r : ℕ) → IsMade good w b t e → HasTypes ty e.part → HasTypes ty t → IsBounded t → r ≤ unsigned_abs ty.units.den * most_shift → IsLive ty r t e.part → IsOfBounded e
+  pub live_bounded : (b : Bool) (t : Plain) (e : Entry) (r : ℕ) → IsMade good w b t e →
+      HasTypes ty e.part → HasTypes ty t → IsBounded t →
+      r ≤ unsigned_abs ty.units.den * most_shift → IsLive ty r t e.part → IsOfBounded e
   live_bounded b t e r m typed of_tree bounded most live =
       let up = open_adds_up good w e m in
       let fs = e.part ∷ e.above in
@@ -136,7 +145,9 @@ canon_bounded t b =
 pub canon_at_most : (most : ℕ) (t : Plain) → HasAtMost most t → HasAtMost most (canon t)
 canon_at_most most t b = let e = b.edges in let d = b.decorations in record { edges = omega (arith, e, canon_count t); decorations = omega (arith, d, canon_sum t) }
 
-pub terms_bounded : (ty : Types) (t : Plain) (k : Extracted) → AreTypes ty → HasTypes ty t → IsBounded t → IsIn k (keys (extraction_terms ty t)) → AllByRecursion IsBounded k.0 × HasAtMost most_quotient k.1
+pub terms_bounded : (ty : Types) (t : Plain) (k : Extracted) → AreTypes ty → HasTypes ty t →
+    IsBounded t → IsIn k (keys (extraction_terms ty t)) →
+    AllByRecursion IsBounded k.0 × HasAtMost most_quotient k.1
 terms_bounded ty t k types typed b h =
     let from = extraction_entry ty t k h in
     let e = from.0 in
@@ -163,7 +174,9 @@ empty_live ty t part types b e =
     let l = lows_bounded ty t types b in
     closing_live ty (unsigned_abs ty.units.den * most_shift) t part l (let size = size_most ty (0 ∷ 0 ∷ 0 ∷ 0 ∷ 0 ∷ []) types in let same = ap (λ s. (degree_of ty s).a) e in omega (arith, ints, size, same))
 
-pub entries_idle_bounded : (ty : Types) (j : ℕ) (t : Plain) → AreTypes ty → HasTypes ty t → IsBounded t → AllByRecursion IsOfBounded (good_entries (is_extracted ty) (each_direction ty.dims j) false t)
+pub entries_idle_bounded : (ty : Types) (j : ℕ) (t : Plain) → AreTypes ty → HasTypes ty t →
+    IsBounded t →
+    AllByRecursion IsOfBounded (good_entries (is_extracted ty) (each_direction ty.dims j) false t)
 entries_idle_bounded ty j t types typed b =
     let w = each_direction ty.dims j in
     let IsIdle : Entry → Type 0 = λ e. IsMade (is_extracted ty) w false t e × (e.part ≡ empty_tree) in

@@ -42,7 +42,8 @@ module _ (ty : Types) (good : Plain → Bool) (w : List ℕ) where
       let r = size-raised s y.part in
       omega (arith, ints, l, v, d, r)
 
-pub entries_low : (ty : Types) (good : Plain → Bool) (w : List ℕ) (touched : Bool) (t : Plain) → AllByRecursion (λ (e : Entry). low ty t ≤ℤ (degree_of ty e.part).a) (good_entries good w touched t)
+pub entries_low : (ty : Types) (good : Plain → Bool) (w : List ℕ) (touched : Bool) (t : Plain) →
+    AllByRecursion (λ (e : Entry). low ty t ≤ℤ (degree_of ty e.part).a) (good_entries good w touched t)
 entries_low ty good w touched t =
     all_weaker (IsMade good w touched t) (λ (e : Entry). low ty t ≤ℤ (degree_of ty e.part).a) (good_entries good w touched t)
     (λ e m. let l = above_low ty good w m in omega (arith, ints, l)) (entries_made good w touched t)

@@ -51,7 +51,9 @@ some_edge (bare n) h = absurd cc
 some_edge (graft k p c t) h = omega arith
 
 -- a quotient with nothing left of the tree
-whole_taken : (good : Plain → Bool) (w : List ℕ) {b : Bool} {t : Plain} {e : Entry} → IsMade good w b t e → b ≡ true → edge_count_of e.quotient ≡ 0 → node_sum e.quotient ≡ 0 → e.part ≡ t
+whole_taken : (good : Plain → Bool) (w : List ℕ) {b : Bool} {t : Plain} {e : Entry} →
+    IsMade good w b t e → b ≡ true → edge_count_of e.quotient ≡ 0 → node_sum e.quotient ≡ 0 →
+    e.part ≡ t
 whole_taken good w (taken n a i) q z l = ap bare (minus-none n a i l)
 whole_taken good w (idle n) q z l = absurd cc
 whole_taken good w (whole c) q z l = absurd cc
@@ -64,7 +66,8 @@ whole_taken good w (inside {x = x} {y = y} k p m n) q z l =
 whole_taken good w (over_idle s k p i m n) q z l = absurd (omega (arith, z))
 whole_taken good w (over_component s k p i m o g n) q z l = absurd (omega (arith, z))
 
-untouched_alone : (good : Plain → Bool) (w : List ℕ) {b : Bool} {t : Plain} {e : Entry} → IsMade good w b t e → b ≡ false → edge_count_of e.quotient ≡ 0 → e.above ≡ []
+untouched_alone : (good : Plain → Bool) (w : List ℕ) {b : Bool} {t : Plain} {e : Entry} →
+    IsMade good w b t e → b ≡ false → edge_count_of e.quotient ≡ 0 → e.above ≡ []
 untouched_alone good w (taken n a i) q z = refl
 untouched_alone good w (idle n) q z = refl
 untouched_alone good w (whole c) q z = refl
@@ -99,7 +102,9 @@ module _ (ty : Types) (j : ℕ) where
   FallsTo t fs q = ((fs ≡ t ∷ []) × (q ≡ empty_tree)) ⊎ AllByRecursion (λ f. IsSmaller f t) fs
 
   -- one component, and a quotient without edges
-  alone_falls : (t : Plain) (e : Entry) → IsMade good w true t e → HasTypes ty e.quotient → AddUp t (e.part ∷ []) e.quotient → edge_count_of e.quotient ≡ 0 → edge_sum e.quotient ≡ 0 → FallsTo t (e.part ∷ []) e.quotient
+  alone_falls : (t : Plain) (e : Entry) → IsMade good w true t e → HasTypes ty e.quotient →
+      AddUp t (e.part ∷ []) e.quotient → edge_count_of e.quotient ≡ 0 → edge_sum e.quotient ≡ 0 →
+      FallsTo t (e.part ∷ []) e.quotient
   alone_falls t e m typed up z none =
       let edges = edges_add_up t (e.part ∷ []) e.quotient up in
       let nodes = nodes_add_up t (e.part ∷ []) e.quotient up in
@@ -113,7 +118,9 @@ module _ (ty : Types) (j : ℕ) where
   edge_sum-none (bare n) z = refl
   edge_sum-none (graft k p c t) z = absurd (omega (arith, z))
 
-  with_above : (t : Plain) (e : Entry) (fs : List Plain) → e.above ≡ fs → IsMade good w true t e → HasTypes ty e.quotient → AddUp t (e.part ∷ fs) e.quotient → AllByRecursion (λ f. has_edge f ≡ true) (e.part ∷ fs) →
+  with_above : (t : Plain) (e : Entry) (fs : List Plain) → e.above ≡ fs → IsMade good w true t e →
+      HasTypes ty e.quotient → AddUp t (e.part ∷ fs) e.quotient →
+      AllByRecursion (λ f. has_edge f ≡ true) (e.part ∷ fs) →
       edge_count_of e.quotient ≡ 0 → FallsTo t (e.part ∷ fs) e.quotient
   with_above t e [] same m typed up edged z = alone_falls t e m typed up z (edge_sum-none e.quotient z)
   with_above t e (g ∷ gs) same m typed up edged z =
@@ -155,11 +162,15 @@ pair_of fs q = (fs, q)
 abbrev IsFalling : Plain → Extracted → Type 0
 IsFalling t k = (k ≡ (canon t ∷ [], empty_tree)) ⊎ AllByRecursion (λ f. IsSmaller f t) k.0
 
-key_falls : (t : Plain) (fs : List Plain) (q : Plain) → ((fs ≡ t ∷ []) × (q ≡ empty_tree)) ⊎ AllByRecursion (λ f. IsSmaller f t) fs → IsFalling t (canon_forest fs, canon q)
+key_falls : (t : Plain) (fs : List Plain) (q : Plain) →
+    ((fs ≡ t ∷ []) × (q ≡ empty_tree)) ⊎ AllByRecursion (λ f. IsSmaller f t) fs →
+    IsFalling t (canon_forest fs, canon q)
 key_falls t fs q (inl h) = inl (ap (λ gs. pair_of (canon_forest gs) (canon q)) h.0 ∙ ap (λ u. pair_of (canon t ∷ []) (canon u)) h.1)
 key_falls t fs q (inr h) = inr (all-canon_forest (λ f. IsSmaller f t) (canon_smaller t) fs h)
 
-pub term_falls : (ty : Types) (t : Plain) (k : Extracted) → HasTypes ty t → IsIn k (keys (extraction_terms ty t)) → (k ≡ (canon t ∷ [], empty_tree)) ⊎ AllByRecursion (λ f. IsSmaller f t) k.0
+pub term_falls : (ty : Types) (t : Plain) (k : Extracted) → HasTypes ty t →
+    IsIn k (keys (extraction_terms ty t)) →
+    (k ≡ (canon t ∷ [], empty_tree)) ⊎ AllByRecursion (λ f. IsSmaller f t) k.0
 term_falls ty t k typed h =
     let from = extraction_entry ty t k h in
     let e = from.0 in

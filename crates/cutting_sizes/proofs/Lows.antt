@@ -10,7 +10,8 @@ pub low_most : (ty : Types) (t : Plain) → low ty t ≤ℤ pos 0
 low_most ty (bare n) = omega (arith, ints)
 low_most ty (graft k p c t) = let rest = low_most ty t in omega (arith, ints, clamps, rest)
 
--- an edge with what stands above it adds at least as much to a component as to the low, and leaving it out too
+-- an edge with what stands above it adds at least as much to a component as to the low, and leaving
+-- it out too
 pub low_inside : (ty : Types) (k : ℕ) (p : List ℕ) (c t : Plain) → low ty (graft k p c t) ≤ℤ (((edge_degree_of ty k p).a +ℤ low ty c) +ℤ low ty t)
 low_inside ty k p c t = omega (arith, ints, clamps)
 

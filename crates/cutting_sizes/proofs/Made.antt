@@ -1,4 +1,5 @@
--- What the recursions down a tree make: an entry is made of entries of the subtree above its first edge and of the rest of the tree.
+-- What the recursions down a tree make: an entry is made of entries of the subtree above its first
+-- edge and of the rest of the tree.
 use Rattle.std.proofs.Common.{◌≡◌, ℕ, zero, suc, ◌+◌, ◌-◌, ◌≤◌, ◌⊎◌, inl, inr, Bool, true, false, cond, not, ◌||◌, List, [], ◌∷◌, ◌++◌, map, flat_map, filter, refl, ap, ◌∙◌, arith}
 use Rattle.std.specs.List.{AllByRecursion}
 use Rattle.degree_numbers.specs.Multi.{plus_of, minus_of}
@@ -33,10 +34,13 @@ pub data IsMade (good : Plain → Bool) (w : List ℕ) : Bool → Plain → Entr
   taken : (n a : List ℕ) → IsBelow a n → IsMade good w true (bare n) (taken_entry n a)
   idle : (n : List ℕ) → IsMade good w false (bare n) (idle_entry n)
   whole : (c : Plain) → IsMade good w false c (whole_entry c)
-  inside : {c t : Plain} {x y : Entry} (k : ℕ) (p : List ℕ) → IsMade good w true c x → IsMade good w true t y → IsMade good w true (graft k p c t) (with_inside k p x y)
+  inside : {c t : Plain} {x y : Entry} (k : ℕ) (p : List ℕ) → IsMade good w true c x →
+      IsMade good w true t y → IsMade good w true (graft k p c t) (with_inside k p x y)
   over_idle : {b : Bool} {c t : Plain} {x y : Entry} (s : List ℕ) (k : ℕ) (p : List ℕ) → IsShift b w p s → IsMade good w false c x → IsMade good w b t y →
       IsMade good w b (graft k p c t) (with_outside s k p x y)
-  over_component : {b : Bool} {c t : Plain} {x y : Entry} (s : List ℕ) (k : ℕ) (p : List ℕ) → IsShift b w p s → IsMade good w true c x → has_edge x.part ≡ true → good x.part ≡ true → IsMade good w b t y →
+  over_component : {b : Bool} {c t : Plain} {x y : Entry} (s : List ℕ) (k : ℕ) (p : List ℕ) →
+      IsShift b w p s → IsMade good w true c x → has_edge x.part ≡ true → good x.part ≡ true →
+      IsMade good w b t y →
       IsMade good w b (graft k p c t) (with_outside s k p x y)
 
 -- the multiindices below one
@@ -44,7 +48,9 @@ down_most : (n : ℕ) → AllByRecursion (λ k. k ≤ n) (down_from n)
 down_most zero = (omega arith, tt)
 down_most (suc n) = (omega arith, all_weaker (λ k. k ≤ n) (λ k. k ≤ suc n) (down_from n) (λ k h. omega (arith, h)) (down_most n))
 
-all_over : {X Y : Type 0} (P : X → Type 0) (Q : Y → Type 0) (f : X → List Y) (xs : List X) → ((x : X) → P x → AllByRecursion Q (f x)) → AllByRecursion P xs → AllByRecursion Q (flat_map f xs)
+all_over : {X Y : Type 0} (P : X → Type 0) (Q : Y → Type 0) (f : X → List Y) (xs : List X) →
+    ((x : X) → P x → AllByRecursion Q (f x)) → AllByRecursion P xs →
+    AllByRecursion Q (flat_map f xs)
 all_over P Q f [] h a = tt
 all_over P Q f (x ∷ xs) h a = all_append Q (f x) (flat_map f xs) (h x a.0) (all_over P Q f xs h a.1)
 
@@ -97,7 +103,8 @@ module _ (good : Plain → Bool) (w : List ℕ) where
       all_weaker (λ x. IsEnded c x × (kept x ≡ true)) (IsClosed c) (good_closed good (closed_from untouched touched)) (λ x m. closes c x m.0 m.1)
       (all_filtered (IsEnded c) kept (closed_from untouched touched) ended)
 
-  outside_made : (b : Bool) (s : List ℕ) (k : ℕ) (p : List ℕ) (c t : Plain) → IsShift b w p s → (x y : Entry) → IsClosed c x → IsOf b t y → IsOf b (graft k p c t) (with_outside s k p x y)
+  outside_made : (b : Bool) (s : List ℕ) (k : ℕ) (p : List ℕ) (c t : Plain) → IsShift b w p s →
+      (x y : Entry) → IsClosed c x → IsOf b t y → IsOf b (graft k p c t) (with_outside s k p x y)
   outside_made b s k p c t h x y (inl m) n = over_idle s k p h m n
   outside_made b s k p c t h x y (inr m) n = over_component s k p h m.0 m.1 m.2 n
 
@@ -120,7 +127,8 @@ module _ (good : Plain → Bool) (w : List ℕ) where
       let ended = closed_made c (good_entries good w false c) (good_entries good w true c) (entries_made false c) (entries_made true c) in
       all_made (IsClosed c) (IsOf false t) (IsOf false (graft k p c t)) (with_outside (zeros p) k p) (outside_made false (zeros p) k p c t refl) closed (good_entries good w false t) ended (entries_made false t)
 
-  pub closed_entries_made : (t : Plain) → AllByRecursion (IsClosed t) (good_closed good (closed_from (good_entries good w false t) (good_entries good w true t)))
+  pub closed_entries_made : (t : Plain) →
+      AllByRecursion (IsClosed t) (good_closed good (closed_from (good_entries good w false t) (good_entries good w true t)))
   closed_entries_made t = closed_made t (good_entries good w false t) (good_entries good w true t) (entries_made false t) (entries_made true t)
 
   pub rooted_made : (t : Plain) → AllByRecursion (IsOf true t) (rooted_entries w t)

@@ -42,7 +42,8 @@ and_both true b h = (refl, h)
 and_both false b h = absurd cc
 
 module _ (ty : Types) where
-  -- where the branches of the quotient's root are above 0, the decorations of the root's component are at most what the degrees above 0 allow
+  -- where the branches of the quotient's root are above 0, the decorations of the root's component
+  -- are at most what the degrees above 0 allow
   abbrev pub IsHeld : Plain → Entry → Type 0
   IsHeld t e = are_above_zero ty e.quotient ≡ true → node_size ty e.part ≤ positive_size ty t
 
@@ -88,7 +89,9 @@ module _ (ty : Types) where
   pub shifts_fit : (t : Plain) → AreTypes ty → IsFit t → positive_size ty t / unsigned_abs ty.units.den ≤ most_shift
   shifts_fit t h f = div-le_of_le-mul (unsigned_abs ty.units.den) (positive_fit t h f)
 
-  pub fit_small : (j : ℕ) (t : Plain) (e : Entry) → AreTypes ty → HasTypes ty t → IsFit t → IsMade (λ f. true) (each_direction ty.dims j) true t e → e.above ≡ [] → node_size ty e.part ≤ positive_size ty t →
+  pub fit_small : (j : ℕ) (t : Plain) (e : Entry) → AreTypes ty → HasTypes ty t → IsFit t →
+      IsMade (λ f. true) (each_direction ty.dims j) true t e → e.above ≡ [] →
+      node_size ty e.part ≤ positive_size ty t →
       HasAtMost most_part e.part × HasAtMost most_part e.quotient
   fit_small j t e h typed fit m alone held =
       let w = each_direction ty.dims j in
@@ -115,7 +118,9 @@ module _ (ty : Types) where
 pub fit_parts : (k : ℕ) (p : List ℕ) (c t : Plain) → IsFit (graft k p c t) → IsFit c × IsFit t
 fit_parts k p c t f = let e = f.edges in let d = f.decorations in (record { edges = omega (arith, e); decorations = omega (arith, d) }, record { edges = omega (arith, e); decorations = omega (arith, d) })
 
-pub recentring_small : (ty : Types) (t : Plain) (k : Recentred) → AreTypes ty → HasTypes ty t → IsFit t → IsIn k (keys (recentring_terms ty t)) → HasAtMost most_part k.0 × HasAtMost most_part k.1
+pub recentring_small : (ty : Types) (t : Plain) (k : Recentred) → AreTypes ty → HasTypes ty t →
+    IsFit t → IsIn k (keys (recentring_terms ty t)) →
+    HasAtMost most_part k.0 × HasAtMost most_part k.1
 recentring_small ty t k types typed fit h =
     let from = recentring_entry ty t k h in
     let e = from.0 in

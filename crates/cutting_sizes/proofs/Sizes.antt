@@ -32,7 +32,9 @@ pub den_some : (ty : Types) → AreTypes ty → 0 < unsigned_abs ty.units.den
 den_some ty h = let above = h.den_above in omega (arith, ints, above)
 
 -- the degree of a type is at least -20 and at most 20
-modest_at : (den : ℕ) (es : List TypeEntry) (k : ℕ) → AllByRecursion (λ e. unsigned_abs e.degree.a ≤ 20 * den) es → unsigned_abs (unwrap_or (option_map (λ e. e.degree) (slice_get es k)) degree_zero).a ≤ 20 * den
+modest_at : (den : ℕ) (es : List TypeEntry) (k : ℕ) →
+    AllByRecursion (λ e. unsigned_abs e.degree.a ≤ 20 * den) es →
+    unsigned_abs (unwrap_or (option_map (λ e. e.degree) (slice_get es k)) degree_zero).a ≤ 20 * den
 modest_at den [] k h = omega (arith, ints)
 modest_at den (e ∷ es) zero h = h.0
 modest_at den (e ∷ es) (suc k) h = modest_at den es k h.1
@@ -53,7 +55,9 @@ none-sum : (m : List ℕ) → AllByRecursion (λ x. x ≡ 0) m → sum m ≡ 0
 none-sum [] h = refl
 none-sum (x ∷ m) h = let a = h.0 in omega (arith, sum-cons x m, a, none-sum m h.1)
 
-sum-scaled : (d : ℕ) (ss m : List ℕ) → d ≤ length ss → AllByRecursion (λ c. (0 < c) × (c ≤ 10)) (take d ss) → AllByRecursion (λ x. x ≡ 0) (drop d m) → sum m ≤ scaled_size ss m
+sum-scaled : (d : ℕ) (ss m : List ℕ) → d ≤ length ss →
+    AllByRecursion (λ c. (0 < c) × (c ≤ 10)) (take d ss) → AllByRecursion (λ x. x ≡ 0) (drop d m) →
+    sum m ≤ scaled_size ss m
 sum-scaled zero ss m l a z = let e = none-sum m z in omega (arith, e)
 sum-scaled (suc d) [] m l a z = absurd (omega (arith, l))
 sum-scaled (suc d) (c ∷ ss) [] l a z = omega arith

@@ -41,20 +41,25 @@ module _ (good : Plain → Bool) (w : List ℕ) where
   abbrev closed_of : Plain → List Entry
   closed_of c = good_closed good (closed_from (good_entries good w false c) (good_entries good w true c))
 
-  pub step_inside : (k : ℕ) (p : List ℕ) (c t : Plain) (x y : Entry) → IsIn x (good_entries good w true c) → IsIn y (good_entries good w true t) → IsIn (with_inside k p x y) (good_entries good w true (graft k p c t))
+  pub step_inside : (k : ℕ) (p : List ℕ) (c t : Plain) (x y : Entry) →
+      IsIn x (good_entries good w true c) → IsIn y (good_entries good w true t) →
+      IsIn (with_inside k p x y) (good_entries good w true (graft k p c t))
   step_inside k p c t x y a b =
       in_append_left (with_inside k p x y) (pairs (with_inside k p) (good_entries good w true c) (good_entries good w true t))
       (flat_map (λ s. pairs (with_outside s k p) (closed_of c) (good_entries good w true t)) (shifts w p))
       (in_pairs (with_inside k p) x y (good_entries good w true c) (good_entries good w true t) a b)
 
-  pub step_outside : (s : List ℕ) (k : ℕ) (p : List ℕ) (c t : Plain) (x y : Entry) → IsIn s (shifts w p) → IsIn x (closed_of c) → IsIn y (good_entries good w true t) →
+  pub step_outside : (s : List ℕ) (k : ℕ) (p : List ℕ) (c t : Plain) (x y : Entry) →
+      IsIn s (shifts w p) → IsIn x (closed_of c) → IsIn y (good_entries good w true t) →
       IsIn (with_outside s k p x y) (good_entries good w true (graft k p c t))
   step_outside s k p c t x y i a b =
       let row : List ℕ → List Entry = λ s. pairs (with_outside s k p) (closed_of c) (good_entries good w true t) in
       in_append_right (with_outside s k p x y) (pairs (with_inside k p) (good_entries good w true c) (good_entries good w true t)) (flat_map row (shifts w p))
       (in_flat_map row (with_outside s k p x y) s (shifts w p) i (in_pairs (with_outside s k p) x y (closed_of c) (good_entries good w true t) a b))
 
-  pub step_idle : (k : ℕ) (p : List ℕ) (c t : Plain) (x y : Entry) → IsIn x (closed_of c) → IsIn y (good_entries good w false t) → IsIn (with_outside (zeros p) k p x y) (good_entries good w false (graft k p c t))
+  pub step_idle : (k : ℕ) (p : List ℕ) (c t : Plain) (x y : Entry) → IsIn x (closed_of c) →
+      IsIn y (good_entries good w false t) →
+      IsIn (with_outside (zeros p) k p x y) (good_entries good w false (graft k p c t))
   step_idle k p c t x y a b = in_pairs (with_outside (zeros p) k p) x y (closed_of c) (good_entries good w false t) a b
 
   kept_idle : (b g : Bool) → b ≡ false → not b || g ≡ true
@@ -76,12 +81,16 @@ module _ (good : Plain → Bool) (w : List ℕ) where
       (in_append_right x (good_entries good w false c) (filter (λ e. has_edge e.part) (good_entries good w true c)) (in_filter (λ (e : Entry). has_edge e.part) x (good_entries good w true c) h e))
       (kept_good (has_edge x.part) (good x.part) g)
 
-pub rooted_inside : (w : List ℕ) (k : ℕ) (p : List ℕ) (c t : Plain) (x y : Entry) → IsIn x (rooted_entries w c) → IsIn y (rooted_entries w t) → IsIn (with_inside k p x y) (rooted_entries w (graft k p c t))
+pub rooted_inside : (w : List ℕ) (k : ℕ) (p : List ℕ) (c t : Plain) (x y : Entry) →
+    IsIn x (rooted_entries w c) → IsIn y (rooted_entries w t) →
+    IsIn (with_inside k p x y) (rooted_entries w (graft k p c t))
 rooted_inside w k p c t x y a b =
     in_append_left (with_inside k p x y) (pairs (with_inside k p) (rooted_entries w c) (rooted_entries w t)) (flat_map (λ s. map (with_outside s k p (whole_entry c)) (rooted_entries w t)) (shifts w p))
     (in_pairs (with_inside k p) x y (rooted_entries w c) (rooted_entries w t) a b)
 
-pub rooted_outside : (w s : List ℕ) (k : ℕ) (p : List ℕ) (c t : Plain) (y : Entry) → IsIn s (shifts w p) → IsIn y (rooted_entries w t) → IsIn (with_outside s k p (whole_entry c) y) (rooted_entries w (graft k p c t))
+pub rooted_outside : (w s : List ℕ) (k : ℕ) (p : List ℕ) (c t : Plain) (y : Entry) →
+    IsIn s (shifts w p) → IsIn y (rooted_entries w t) →
+    IsIn (with_outside s k p (whole_entry c) y) (rooted_entries w (graft k p c t))
 rooted_outside w s k p c t y i b =
     let row : List ℕ → List Entry = λ s. map (with_outside s k p (whole_entry c)) (rooted_entries w t) in
     in_append_right (with_outside s k p (whole_entry c) y) (pairs (with_inside k p) (rooted_entries w c) (rooted_entries w t)) (flat_map row (shifts w p))

@@ -87,7 +87,9 @@ module _ (ty : Types) where
       same_degree (degrees_of ty (with_tree (canon t) (canon_forest ts))) (degree_plus (degree_of ty (canon t)) (degrees_of ty (canon_forest ts))) (a-with_tree (canon t) (canon_forest ts)) (b-with_tree (canon t) (canon_forest ts))
       ∙ rw (canon_degree ty t, canon_forest-degrees ts) refl
 
-  pub canonical_degrees : (t : Plain) (ts : List Plain) (q : Plain) → degree_plus (degrees_of ty ts) (degree_of ty q) ≡ degree_of ty t → degree_plus (degrees_of ty (canon_forest ts)) (degree_of ty (canon q)) ≡ degree_of ty t
+  pub canonical_degrees : (t : Plain) (ts : List Plain) (q : Plain) →
+      degree_plus (degrees_of ty ts) (degree_of ty q) ≡ degree_of ty t →
+      degree_plus (degrees_of ty (canon_forest ts)) (degree_of ty (canon q)) ≡ degree_of ty t
   canonical_degrees t ts q e = rw (canon_forest-degrees ts, canon_degree ty q) e
 
   -- the terms of the extraction coproduct
@@ -115,7 +117,8 @@ module _ (ty : Types) where
       let e = from.0 in
       subst (λ (l : Extracted). AddUp t l.0 l.1) from.1.1 (canonical_adds_up t (forest_of e) e.quotient (closed_adds_up (is_extracted ty) (extraction_bound ty t) t e from.1.0))
 
-  pub extraction_degrees : (t : Plain) (k : Extracted) → IsIn k (keys (extraction_terms ty t)) → degree_plus (degrees_of ty k.0) (degree_of ty k.1) ≡ degree_of ty t
+  pub extraction_degrees : (t : Plain) (k : Extracted) → IsIn k (keys (extraction_terms ty t)) →
+      degree_plus (degrees_of ty k.0) (degree_of ty k.1) ≡ degree_of ty t
   extraction_degrees t k h =
       let from = extraction_entry t k h in
       let e = from.0 in
@@ -161,7 +164,8 @@ module _ (ty : Types) where
       let e = from.0 in
       subst (λ (l : Recentred). AddUp t (l.0 ∷ []) l.1) from.1.gives (canonical_adds_up t (e.part ∷ []) e.quotient (alone_adds_up (λ f. true) (recentring_bound ty t) t e from.1.made from.1.alone))
 
-  pub recentring_degrees : (t : Plain) (k : Recentred) → IsIn k (keys (recentring_terms ty t)) → degree_plus (degree_of ty k.0) (degree_of ty k.1) ≡ degree_of ty t
+  pub recentring_degrees : (t : Plain) (k : Recentred) → IsIn k (keys (recentring_terms ty t)) →
+      degree_plus (degree_of ty k.0) (degree_of ty k.1) ≡ degree_of ty t
   recentring_degrees t k h =
       let from = recentring_entry t k h in
       let e = from.0 in

@@ -119,7 +119,8 @@ module _ (ty : Types) where
   idle-outside : (k : ℕ) (p : List ℕ) (x y : Entry) → length p ≡ 5 → y.part ≡ empty_tree → (with_outside (zeros p) k p x y).part ≡ empty_tree
   idle-outside k p x y five e = rw (e, zeros-five p five) refl
 
-  pub idle_parts : (good : Plain → Bool) (v : List ℕ) (t : Plain) → HasTypes ty t → AllByRecursion (λ (e : Entry). e.part ≡ empty_tree) (good_entries good v false t)
+  pub idle_parts : (good : Plain → Bool) (v : List ℕ) (t : Plain) → HasTypes ty t →
+      AllByRecursion (λ (e : Entry). e.part ≡ empty_tree) (good_entries good v false t)
   idle_parts good v (bare n) h = (ap bare (zeros-five n h.entries), tt)
   idle_parts good v (graft k p c t) h =
       let five = h.0.decoration.entries in
@@ -131,7 +132,8 @@ module _ (ty : Types) where
       all_true [] = tt
       all_true (x ∷ xs) = (tt, all_true xs)
 
-  pub extraction_types : (t : Plain) (k : Extracted) → HasTypes ty t → IsIn k (keys (extraction_terms ty t)) → AllByRecursion (HasTypes ty) k.0 × HasTypes ty k.1
+  pub extraction_types : (t : Plain) (k : Extracted) → HasTypes ty t →
+      IsIn k (keys (extraction_terms ty t)) → AllByRecursion (HasTypes ty) k.0 × HasTypes ty k.1
   extraction_types t k types h =
       let from = extraction_entry ty t k h in
       let e = from.0 in
@@ -145,7 +147,8 @@ module _ (ty : Types) where
       subst (λ (l : Recentred). HasTypes ty l.0 × HasTypes ty l.1) from.1.gives
       (canon_types ty e.part (part-types (λ f. true) _ from.1.made refl types), canon_types ty e.quotient (quotient-types (λ f. true) _ from.1.made types))
 
-  pub entries_typed : (good : Plain → Bool) (j : ℕ) (t : Plain) → HasTypes ty t → AllByRecursion (AreTyped ty) (good_entries good (each_direction ty.dims j) true t)
+  pub entries_typed : (good : Plain → Bool) (j : ℕ) (t : Plain) → HasTypes ty t →
+      AllByRecursion (AreTyped ty) (good_entries good (each_direction ty.dims j) true t)
   entries_typed good j t h =
       all_weaker (IsMade good (each_direction ty.dims j) true t) (AreTyped ty) (good_entries good (each_direction ty.dims j) true t)
       (λ e m. record { above = above-types good j m h; part = part-types good j m refl h; quotient = quotient-types good j m h }) (entries_made good (each_direction ty.dims j) true t)
@@ -158,7 +161,8 @@ module _ (ty : Types) where
       all_zero (suc d) [] h = tt
       all_zero (suc d) (x ∷ m) h = all_zero d m h.1
 
-  pub idle_typed : (good : Plain → Bool) (j : ℕ) (t : Plain) → HasTypes ty t → AllByRecursion (AreTyped ty) (good_entries good (each_direction ty.dims j) false t)
+  pub idle_typed : (good : Plain → Bool) (j : ℕ) (t : Plain) → HasTypes ty t →
+      AllByRecursion (AreTyped ty) (good_entries good (each_direction ty.dims j) false t)
   idle_typed good j t h =
       let v = each_direction ty.dims j in
       all_weaker (λ e. IsMade good v false t e × (e.part ≡ empty_tree)) (AreTyped ty) (good_entries good v false t)

@@ -1,5 +1,7 @@
--- How low the degree of a component can be, and how far above that it is. All are standard parts of degrees, in units.
---   low ty t == the least degree of a component with the root of t as its lowest node: the sum of the degrees of its edges, where no edge gives 0
+-- How low the degree of a component can be, and how far above that it is. All are standard parts of
+-- degrees, in units.
+--   low ty t == the least degree of a component with the root of t as its lowest node: the sum of
+--       the degrees of its edges, where no edge gives 0
 --   lowest ty t == the least of the lows of the trees that stand above the nodes of t
 --   excess ty t part == by how much the degree of the component `part` of t is above the low of t
 --   IsLive ty b t part == the excess is at most b

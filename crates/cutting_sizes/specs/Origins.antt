@@ -1,5 +1,6 @@
 -- The cuttings from which the terms of the two coproducts come.
---   IsExtraction ty t k == some cutting of t, of which all components are extracted, has the forest and the quotient k
+--   IsExtraction ty t k == some cutting of t, of which all components are extracted, has the forest
+--       and the quotient k
 --   IsRecentring ty t k == some cutting of t that recentres has the left and the right tree k
 use Rattle.std.specs.Prelude.{◌≡◌, true, false}
 use Rattle.ordered_lists.specs.Members.{IsIn}

@@ -1,13 +1,18 @@
 -- How what is counted in a tree is shared out among the components and the quotient of a cutting.
---   sum_over f g t == the sum of f over the decorations of the nodes of t, and of g over the types and derivative decorations of its edges
+--   sum_over f g t == the sum of f over the decorations of the nodes of t, and of g over the types
+--       and derivative decorations of its edges
 --   edges_of which t == the number of edges of t of types that `which` selects
---   node_sum t, edge_sum t == the sum of all entries of the decorations of the nodes of t, of its edges
---   node_entries d t, edge_entries d t == the sum of the entries in direction d of the decorations of the nodes of t, of its edges
+--   node_sum t, edge_sum t == the sum of all entries of the decorations of the nodes of t, of its
+--       edges
+--   node_entries d t, edge_entries d t == the sum of the entries in direction d of the decorations
+--       of the nodes of t, of its edges
 --   direction_sum d t == the sum of both
 --   degrees_of ty ts == the sum of the degrees of the trees ts
---   IsAdditive f g h == f of a sum of multiindices is the sum, h too, and g of an edge that is raised by s is greater by h s
---   AddUp t components quotient == with the sum of all shifts, whatever is counted by such f and g adds up: in the components and the quotient together there is
---       as much as in t, and f and h of that sum besides; f of it in the components, h of it in the quotient
+--   IsAdditive f g h == f of a sum of multiindices is the sum, h too, and g of an edge that is
+--       raised by s is greater by h s
+--   AddUp t components quotient == with the sum of all shifts, whatever is counted by such f and g
+--       adds up: in the components and the quotient together there is as much as in t, and f and h
+--       of that sum besides; f of it in the components, h of it in the quotient
 use Rattle.std.specs.Prelude.{ℕ, ◌≡◌, ◌≤◌, ◌+◌, Bool, List, [], ◌∷◌, sum, slice_index}
 use Rattle.exact_sums.specs.Sums.{total, counted_if}
 use Rattle.degree_numbers.specs.declared.degree.Degree.{Degree}
@@ -53,5 +58,7 @@ pub record AddUp (t : Plain) (components : List Plain) (quotient : Plain) : Type
   pub sums :
       (f : List ℕ → ℕ) (g : ℕ → List ℕ → ℕ) (h : List ℕ → ℕ) → IsAdditive f g h →
       total (sum_over f g) components + sum_over f g quotient ≡ sum_over f g t + f shift + h shift
-  pub in_components : (f : List ℕ → ℕ) (g : ℕ → List ℕ → ℕ) (h : List ℕ → ℕ) → IsAdditive f g h → f shift ≤ total (sum_over f (λ k p. 0)) components
-  pub in_quotient : (f : List ℕ → ℕ) (g : ℕ → List ℕ → ℕ) (h : List ℕ → ℕ) → IsAdditive f g h → h shift ≤ sum_over (λ n. 0) g quotient
+  pub in_components : (f : List ℕ → ℕ) (g : ℕ → List ℕ → ℕ) (h : List ℕ → ℕ) → IsAdditive f g h →
+      f shift ≤ total (sum_over f (λ k p. 0)) components
+  pub in_quotient : (f : List ℕ → ℕ) (g : ℕ → List ℕ → ℕ) (h : List ℕ → ℕ) → IsAdditive f g h →
+      h shift ≤ sum_over (λ n. 0) g quotient

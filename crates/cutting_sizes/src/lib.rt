@@ -1,4 +1,5 @@
-//! How large the components and quotients of cuttings are, as laws.
+//! How large the components and quotients of cuttings are, as laws. Both coproducts, the antipode
+//! and the store stand on these bounds.
 #![tactic(auto)]
 
 mod laws;

@@ -1,4 +1,6 @@
-//! The tables of the two coproducts: recursions down a tree over what its cuttings give, in canonical form.
+//! The tables of the two coproducts: recursions down a tree over what its cuttings give, in
+//! canonical form. What both coproducts need stands here: the laws of the tables, binomials, shifts
+//! and lows.
 #![tactic(auto)]
 
 mod laws;

@@ -34,7 +34,8 @@ from_number : (negative : Bool) (text : List ℕ) (x : ℕ × List ℕ) → numb
 unfolding multiple_at after_number
 from_number negative text x h = rw h refl
 
-from_denominator : (negative has_k : Bool) (n d : ℕ) (rest more after : List ℕ) → nonzero_after 47 rest ≡ Some (d, more) → factor_at more ≡ Some (has_k, after) →
+from_denominator : (negative has_k : Bool) (n d : ℕ) (rest more after : List ℕ) →
+    nonzero_after 47 rest ≡ Some (d, more) → factor_at more ≡ Some (has_k, after) →
     after_number negative (n, rest) ≡ Some (record { fraction = record { negative = negative; num = n; den = d }; has_k = has_k }, after)
 unfolding after_number
 from_denominator negative has_k n d rest more after h k = rw h (rw k refl)
@@ -45,7 +46,9 @@ record Follows (has_k : Bool) (rest after : List ℕ) : Type 0 where
   pub no_slash : mark_at 47 rest ≡ None
   pub factor : factor_at rest ≡ Some (has_k, after)
 
-multiple_back : (negative has_k : Bool) (f : Fraction) (rest after : List ℕ) → Fits f → Follows has_k rest after → multiple_at negative (fraction_text f ++ rest) ≡ Some (as_part negative f has_k, after)
+multiple_back : (negative has_k : Bool) (f : Fraction) (rest after : List ℕ) → Fits f →
+    Follows has_k rest after →
+    multiple_at negative (fraction_text f ++ rest) ≡ Some (as_part negative f has_k, after)
 multiple_back negative has_k f rest after fits follows =
     (elim (f.den == 1) as (λ b. (f.den == 1) ≡ b → multiple_at negative ((decimal f.num ++ (if b then [] else codes "/" ++ decimal f.den)) ++ rest) ≡ Some (as_part negative f has_k, after)) [
       | true ↦ λ one.
@@ -71,7 +74,9 @@ part_of_multiple : (negative : Bool) (text : List ℕ) → mark_at 107 text ≡ 
 unfolding part_at
 part_of_multiple negative text h = rw h refl
 
-part_back : (negative has_k : Bool) (f : Fraction) (rest after : List ℕ) → Fits f → Follows has_k rest after → part_at negative (fraction_text f ++ rest) ≡ Some (as_part negative f has_k, after)
+part_back : (negative has_k : Bool) (f : Fraction) (rest after : List ℕ) → Fits f →
+    Follows has_k rest after →
+    part_at negative (fraction_text f ++ rest) ≡ Some (as_part negative f has_k, after)
 part_back negative has_k f rest after fits follows = part_of_multiple negative _ (mark_before_fraction 107 f rest fits refl) ∙ multiple_back negative has_k f rest after fits follows
 
 k_alone : (negative : Bool) → part_at negative (107 ∷ []) ≡ Some (record { fraction = record { negative = negative; num = 1; den = 1 }; has_k = true }, [])
@@ -96,7 +101,8 @@ no_factor text h = rw h refl
 end_follows : Follows false [] []
 end_follows = record { stops = tt; no_slash = no_mark 47; factor = no_factor [] (no_mark 42) }
 
-sign_follows : (negative : Bool) (text : List ℕ) → Follows false ((if negative then codes "-" else codes "+") ++ text) ((if negative then codes "-" else codes "+") ++ text)
+sign_follows : (negative : Bool) (text : List ℕ) →
+    Follows false ((if negative then codes "-" else codes "+") ++ text) ((if negative then codes "-" else codes "+") ++ text)
 sign_follows true text = record { stops = (refl, refl); no_slash = mark_other 47 45 text refl; factor = no_factor _ (mark_other 42 45 text refl) }
 sign_follows false text = record { stops = (refl, refl); no_slash = mark_other 47 43 text refl; factor = no_factor _ (mark_other 42 43 text refl) }
 
@@ -144,15 +150,21 @@ first_unsigned : (text : List ℕ) → sign_at text ≡ None → first_at text �
 unfolding first_at
 first_unsigned text h = rw h refl
 
-first_back : (negative : Bool) (text : List ℕ) → NoSpace text → mark_at 43 text ≡ None → mark_at 45 text ≡ None → first_at ((if negative then codes "-" else []) ++ text) ≡ part_at negative text
+first_back : (negative : Bool) (text : List ℕ) → NoSpace text → mark_at 43 text ≡ None →
+    mark_at 45 text ≡ None →
+    first_at ((if negative then codes "-" else []) ++ text) ≡ part_at negative text
 first_back true text h plus minus = first_signed _ text true (sign_minus text h)
 first_back false text h plus minus = first_unsigned text (sign_none text plus minus)
 
-second_from : (c : ℕ) (cs text : List ℕ) (negative : Bool) (p : Part) → sign_at (c ∷ cs) ≡ Some (negative, text) → part_at negative text ≡ Some (p, []) → second_at (c ∷ cs) ≡ Some (Some p)
+second_from : (c : ℕ) (cs text : List ℕ) (negative : Bool) (p : Part) →
+    sign_at (c ∷ cs) ≡ Some (negative, text) → part_at negative text ≡ Some (p, []) →
+    second_at (c ∷ cs) ≡ Some (Some p)
 unfolding second_at
 second_from c cs text negative p h k = rw h (rw k refl)
 
-second_back : (negative : Bool) (text : List ℕ) (p : Part) → NoSpace text → part_at negative text ≡ Some (p, []) → second_at ((if negative then codes "-" else codes "+") ++ text) ≡ Some (Some p)
+second_back : (negative : Bool) (text : List ℕ) (p : Part) → NoSpace text →
+    part_at negative text ≡ Some (p, []) →
+    second_at ((if negative then codes "-" else codes "+") ++ text) ≡ Some (Some p)
 second_back true text p h k = second_from 45 text text true p (sign_minus text h) k
 second_back false text p h k = second_from 43 text text false p (sign_plus text h) k
 
@@ -160,7 +172,8 @@ second_none : second_at [] ≡ Some None
 unfolding second_at
 second_none = refl
 
-parts_from : (text rest : List ℕ) (p : Part) (s : Option Part) → first_at text ≡ Some (p, rest) → second_at rest ≡ Some s → differ p s ≡ true → parts_at text ≡ Some (p, s)
+parts_from : (text rest : List ℕ) (p : Part) (s : Option Part) → first_at text ≡ Some (p, rest) →
+    second_at rest ≡ Some s → differ p s ≡ true → parts_at text ≡ Some (p, s)
 unfolding parts_at
 parts_from text rest p s h k d = rw h (rw k (rw d refl))
 
@@ -169,7 +182,8 @@ unfolding written_of
 written_from text p s h k = rw (no_spaces_trimmed text h) (rw k refl)
 
 -- the sign and the text of a fraction at the front
-first_fraction : (a : Fraction) (rest : List ℕ) → Fits a → Follows false rest rest → first_at (((if a.negative then codes "-" else []) ++ fraction_text a) ++ rest) ≡ Some (as_part a.negative a false, rest)
+first_fraction : (a : Fraction) (rest : List ℕ) → Fits a → Follows false rest rest →
+    first_at (((if a.negative then codes "-" else []) ++ fraction_text a) ++ rest) ≡ Some (as_part a.negative a false, rest)
 first_fraction a rest fits follows =
     ap first_at (append_assoc (if a.negative then codes "-" else []) (fraction_text a) rest)
     ∙ first_back a.negative (fraction_text a ++ rest) (fraction_no_space a rest fits) (mark_before_fraction 43 a rest fits refl) (mark_before_fraction 45 a rest fits refl)
@@ -257,7 +271,8 @@ not_large n h = grind (arith, nat_tests)
 small_in : (f : Fraction) → f.num ≤ 1000000 → f.den ≤ 1000000 → large_in f ≡ None
 small_in f num den = rw (not_large f.num num, not_large f.den den) refl
 
-text_reads : (a b : Fraction) → 0 < a.den → 0 < b.den → a.num ≤ 1000000 → a.den ≤ 1000000 → b.num ≤ 1000000 → b.den ≤ 1000000 → ReadsAs (a.num == 0) (b.num == 0) a b (degree_text a b)
+text_reads : (a b : Fraction) → 0 < a.den → 0 < b.den → a.num ≤ 1000000 → a.den ≤ 1000000 →
+    b.num ≤ 1000000 → b.den ≤ 1000000 → ReadsAs (a.num == 0) (b.num == 0) a b (degree_text a b)
 text_reads a b a_above b_above a_num a_den b_num b_den =
     reads (a.num == 0) (b.num == 0) a b
     (record { num = omega arith; above = a_above; den = omega arith }) (record { num = omega arith; above = b_above; den = omega arith })

@@ -80,14 +80,19 @@ joined_by a b g n h la lb e =
     }
 
 -- with two more fractions
-pub two_more : (n m : ℕ) (fs : List Fraction) (f g : Fraction) → IsCommon n (fs ++ f ∷ []) → ((gs : List Fraction) → IsCommon n gs → IsCommon m (gs ++ g ∷ [])) → IsCommon m (fs ++ f ∷ g ∷ [])
+pub two_more : (n m : ℕ) (fs : List Fraction) (f g : Fraction) → IsCommon n (fs ++ f ∷ []) →
+    ((gs : List Fraction) → IsCommon n gs → IsCommon m (gs ++ g ∷ [])) →
+    IsCommon m (fs ++ f ∷ g ∷ [])
 two_more n m fs f g h step = subst (λ hs. IsCommon m hs) (append_assoc fs (f ∷ []) (g ∷ [])) (step (fs ++ f ∷ []) h)
 
-fractions-push : (ds : List WrittenDegree) (d : WrittenDegree) → fractions (ds ++ d ∷ []) ≡ fractions ds ++ fraction_of d.a_num d.a_den ∷ fraction_of d.b_num d.b_den ∷ []
+fractions-push : (ds : List WrittenDegree) (d : WrittenDegree) →
+    fractions (ds ++ d ∷ []) ≡ fractions ds ++ fraction_of d.a_num d.a_den ∷ fraction_of d.b_num d.b_den ∷ []
 fractions-push [] d = refl
 fractions-push (e ∷ ds) d = ap (λ fs. fraction_of e.a_num e.a_den ∷ fraction_of e.b_num e.b_den ∷ fs) (fractions-push ds d)
 
-pub fractions_more : (ds : List WrittenDegree) (i : ℕ) (d : WrittenDegree) → i < length ds → d ≡ get_or ds i d → fractions (take (i + 1) ds) ≡ fractions (take i ds) ++ fraction_of d.a_num d.a_den ∷ fraction_of d.b_num d.b_den ∷ []
+pub fractions_more : (ds : List WrittenDegree) (i : ℕ) (d : WrittenDegree) → i < length ds →
+    d ≡ get_or ds i d →
+    fractions (take (i + 1) ds) ≡ fractions (take i ds) ++ fraction_of d.a_num d.a_den ∷ fraction_of d.b_num d.b_den ∷ []
 fractions_more ds i d lt is =
     ap fractions (take_more ds i d lt ∙ ap (λ x. take i ds ++ x ∷ []) (sym is)) ∙ fractions-push (take i ds) d
 

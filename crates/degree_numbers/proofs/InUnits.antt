@@ -1,4 +1,5 @@
--- Written fractions in units of one over a common denominator: what callers need to know the types of a file.
+-- Written fractions in units of one over a common denominator: what callers need to know the types
+-- of a file.
 use Rattle.std.proofs.Common.{◌≡◌, ℕ, zero, suc, ◌+◌, ◌-◌, ◌*◌, ◌/◌, ◌%◌, ◌<◌, ◌≤◌, Bool, true, false, pos, ◌<ℤ◌, unsigned_abs, subst, arith, sym, ap, refl, ◌∙◌}
 use Rattle.std.proofs.Math.Nat.{div-mul_cancel, div-le_self, div-add-mod, mod-lt, mul-le-mul_left, le_of_mul-le-mul_right}
 use Rattle.std.proofs.lemmas.Int.{ints}

@@ -33,7 +33,8 @@ degree_is d e a b = ap (λ x. degree_of_parts x d.b) a ∙ ap (λ y. degree_of_p
 pub degree_exact : CmpEqualImpliesEq degree_order
 degree_exact d e h = let parts = both_equal _ _ h in degree_is d e (exact_signed d.a e.a parts.0) (exact_signed d.b e.b parts.1)
 
-ranks_with : (x y z : ℤ) (r : Ordering) → MatchOrdering r (x <ℤ y) (x ≡ y) (y <ℤ x) → MatchOrdering r ((x +ℤ z) <ℤ (y +ℤ z)) ((x +ℤ z) ≡ (y +ℤ z)) ((y +ℤ z) <ℤ (x +ℤ z))
+ranks_with : (x y z : ℤ) (r : Ordering) → MatchOrdering r (x <ℤ y) (x ≡ y) (y <ℤ x) →
+    MatchOrdering r ((x +ℤ z) <ℤ (y +ℤ z)) ((x +ℤ z) ≡ (y +ℤ z)) ((y +ℤ z) <ℤ (x +ℤ z))
 ranks_with x y z Less h = omega (arith, ints)
 ranks_with x y z Equal h = ap (λ w. w +ℤ z) h
 ranks_with x y z Greater h = omega (arith, ints)

@@ -42,7 +42,8 @@ kernel_small den e most h = (writable_within den e.degree.a most h.a, let none =
 zero_small : IsSmall degree_zero
 zero_small = (record { low = omega (arith, ints); high = omega (arith, ints) }, record { low = omega (arith, ints); high = omega (arith, ints) })
 
-degree_at_small : (es : List TypeEntry) (k : ℕ) → AllByRecursion (λ e. IsSmall e.degree) es → IsSmall (unwrap_or (option_map (λ e. e.degree) (slice_get es k)) degree_zero)
+degree_at_small : (es : List TypeEntry) (k : ℕ) → AllByRecursion (λ e. IsSmall e.degree) es →
+    IsSmall (unwrap_or (option_map (λ e. e.degree) (slice_get es k)) degree_zero)
 degree_at_small [] k h = zero_small
 degree_at_small (e ∷ es) zero h = h.0
 degree_at_small (e ∷ es) (suc k) h = degree_at_small es k h.1

@@ -9,7 +9,9 @@ use Rattle.degree_numbers.proofs.Kept.{num_kept, den_kept}
 pub times_fits : (den unit : ℕ) → unit ≤ 1000000 → unit / den ≤ 1000000
 times_fits den unit h = let le = div-le_self unit den in omega (arith, le)
 
-pub divides_kept : (x y : ℤ) → pos 0 <ℤ x → x ≤ℤ pos 1000000 → pos 0 <ℤ y → y ≤ℤ pos 1000000 → unsigned_abs x ∣ unsigned_abs y → unsigned_abs (to_z w64 (of_z w64 x)) ∣ unsigned_abs (to_z w64 (of_z w64 y))
+pub divides_kept : (x y : ℤ) → pos 0 <ℤ x → x ≤ℤ pos 1000000 → pos 0 <ℤ y → y ≤ℤ pos 1000000 →
+    unsigned_abs x ∣ unsigned_abs y →
+    unsigned_abs (to_z w64 (of_z w64 x)) ∣ unsigned_abs (to_z w64 (of_z w64 y))
 divides_kept x y x_above x_fits y_above y_fits h = rw (den_kept x x_above x_fits, den_kept y y_above y_fits) h
 
 pub product_fits : (x y : ℤ) → unsigned_abs x ≤ 1000000 → unsigned_abs y ≤ 1000000 → FitsSigned w64 (x *ℤ y)
@@ -28,7 +30,8 @@ sizes_divide d u den unit e f h = rw (← e, ← f) at h
 pub fits_kept : (x y : ℤ) → unsigned_abs x ≤ 1000000 → unsigned_abs y ≤ 1000000 → FitsSigned w64 (to_z w64 (of_z w64 x) *ℤ to_z w64 (of_z w64 y))
 fits_kept x y hx hy = rw (num_kept x hx, num_kept y hy) (product_fits x y hx hy)
 
-pub product_kept : (x y : ℤ) → unsigned_abs x ≤ 1000000 → unsigned_abs y ≤ 1000000 → to_z w64 (of_z w64 (to_z w64 (of_z w64 x) *ℤ to_z w64 (of_z w64 y))) ≡ x *ℤ y
+pub product_kept : (x y : ℤ) → unsigned_abs x ≤ 1000000 → unsigned_abs y ≤ 1000000 →
+    to_z w64 (of_z w64 (to_z w64 (of_z w64 x) *ℤ to_z w64 (of_z w64 y))) ≡ x *ℤ y
 product_kept x y hx hy = rw (num_kept x hx, num_kept y hy) (to_z-of_z w64 (x *ℤ y) (product_fits x y hx hy))
 
 negated_product : (n d : ℕ) → neg_ℤ (pos n) *ℤ pos d ≡ neg_ℤ (pos (n * d))

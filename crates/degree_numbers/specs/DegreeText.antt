@@ -1,4 +1,5 @@
--- Degree texts: a part, and perhaps a sign and a second part; one part is plain, the other has `k`. Spaces may stand between tokens.
+-- Degree texts: a part, and perhaps a sign and a second part; one part is plain, the other has `k`.
+-- Spaces may stand between tokens.
 --   Part == a fraction under its sign, and whether `k` stands behind it
 --   factor_at text == whether `*` and `k` stand there
 --   unit negative == 1 under its sign
@@ -10,10 +11,12 @@
 --   differ first second == one part has `k` and the other has none
 --   parts_at text == the parts of a degree text, in the order in which they are written
 --   nothing == 0
---   fraction_with has_k first second == the fraction of the part with `k`, or of the plain one; 0 where it is not written
---   large_in f == the first number of f past 1,000,000
+--   fraction_with has_k first second == the fraction of the part with `k`, or of the plain one; 0
+--       where it is not written
+--   large_in f == the first number of f past 1,000,000 (`LARGEST_NUMBER`)
 --   first_large first second == the first number of the parts past 1,000,000
---   Written == what a degree text writes: the plain fraction, that of `k`, and the first number past 1,000,000
+--   Written == what a degree text writes: the plain fraction, that of `k`, and the first number
+--       past 1,000,000
 --   written first second == what the parts write
 --   written_of text == what text writes; nothing where it is no degree text
 use Rattle.std.specs.Prelude.{ℕ, ◌==◌, Bool, true, false, not, List, [], ◌∷◌, length, if◌then◌else◌, Option, None, Some, nat_lt, unwrap_or, find}
@@ -27,7 +30,8 @@ pub record Part : Type 0 where
   pub has_k : Bool
 
 unfoldable pub factor_at : List ℕ → Option (Bool × List ℕ)
-factor_at text = if_there (mark_at 42 text) (λ rest. mark_at 107 rest >>= (λ after. Some (true, after))) (Some (false, text))
+factor_at text = if_there (mark_at 42 text) (λ rest. mark_at 107 rest >>= (λ after.
+    Some (true, after))) (Some (false, text))
 
 abbrev pub unit : Bool → Fraction
 unit negative = record { negative = negative; num = 1; den = 1 }
@@ -40,13 +44,17 @@ multiple_at negative text = do
   Some (record { fraction = record { negative = negative; num = num.0; den = den.0 }; has_k = factor.0 }, factor.1)
 
 unfoldable pub part_at : Bool → List ℕ → Option (Part × List ℕ)
-part_at negative text = if_there (mark_at 107 text) (λ rest. Some (record { fraction = unit negative; has_k = true }, rest)) (multiple_at negative text)
+part_at negative text = if_there (mark_at 107 text)
+    (λ rest. Some (record { fraction = unit negative; has_k = true }, rest))
+    (multiple_at negative text)
 
 unfoldable pub sign_at : List ℕ → Option (Bool × List ℕ)
-sign_at text = if_there (mark_at 43 text) (λ rest. Some (false, rest)) (if_there (mark_at 45 text) (λ rest. Some (true, rest)) None)
+sign_at text = if_there (mark_at 43 text) (λ rest. Some (false, rest)) (if_there (mark_at 45 text)
+    (λ rest. Some (true, rest)) None)
 
 unfoldable pub first_at : List ℕ → Option (Part × List ℕ)
-first_at text = part_at (unwrap_or (sign_at text) (false, text)).0 (unwrap_or (sign_at text) (false, text)).1
+first_at text =
+    part_at (unwrap_or (sign_at text) (false, text)).0 (unwrap_or (sign_at text) (false, text)).1
 
 unfoldable pub second_at : List ℕ → Option (Option Part)
 second_at [] = Some None
@@ -70,13 +78,15 @@ nothing = record { negative = false; num = 0; den = 1 }
 
 abbrev pub fraction_with : Bool → Part → Option Part → Fraction
 fraction_with has_k first None = if beq first.has_k has_k then first.fraction else nothing
-fraction_with has_k first (Some second) = if beq first.has_k has_k then first.fraction else second.fraction
+fraction_with has_k first (Some second) =
+    if beq first.has_k has_k then first.fraction else second.fraction
 
 abbrev pub large_in : Fraction → Option ℕ
 large_in f = find (λ n. nat_lt 1000000 n) (f.num ∷ f.den ∷ [])
 
 abbrev pub first_large : Part → Option Part → Option ℕ
-first_large first second = option_or (large_in first.fraction) (option_and_then (λ p. large_in p.fraction) second)
+first_large first second =
+    option_or (large_in first.fraction) (option_and_then (λ p. large_in p.fraction) second)
 
 pub record Written : Type 0 where
   pub plain : Fraction
@@ -84,7 +94,12 @@ pub record Written : Type 0 where
   pub large : Option ℕ
 
 abbrev pub written : Part → Option Part → Written
-written first second = record { plain = fraction_with false first second; with_k = fraction_with true first second; large = first_large first second }
+written first second = record {
+  plain = fraction_with false first second;
+  with_k = fraction_with true first second;
+  large = first_large first second;
+}
 
 unfoldable pub written_of : List ℕ → Option Written
-written_of text = if is_trimmed text then (parts_at text >>= (λ parts. Some (written parts.0 parts.1))) else None
+written_of text =
+    if is_trimmed text then (parts_at text >>= (λ parts. Some (written parts.0 parts.1))) else None

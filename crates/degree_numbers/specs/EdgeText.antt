@@ -1,7 +1,9 @@
 -- Texts of multiindices and of edge types.
+--   further_text es == the numbers in decimal, each after a comma
 --   listed_text es == the numbers in decimal, joined by commas
 --   multi_text dims m == the first dims entries of m, joined by commas, in brackets
---   edge_type_text ty k p == the name of type k, then `'` and the multiindex p exactly where p is not 0
+--   edge_type_text ty k p == the name of type k, then `'` and the multiindex p exactly where p is
+--       not 0
 use Rattle.std.specs.Prelude.{ℕ, List, [], ◌∷◌, ◌++◌, take, if◌then◌else◌}
 use Rattle.std.specs.Fmt.{decimal}
 use Rattle.degree_numbers.specs.declared.types.Types.{Types}

@@ -1,7 +1,9 @@
 -- Fractions of whole numbers.
---   Fraction == a fraction as it is written: whether a minus stands before it, its numerator, its denominator
+--   Fraction == a fraction as it is written: whether a minus stands before it, its numerator, its
+--       denominator
 --   IsLowest n d m b == m over b is n over d in lowest terms
---   IsFractionInRange den z == z over den has in lowest terms a numerator and a denominator up to 1,000,000
+--   IsFractionInRange den z == z over den has in lowest terms a numerator and a denominator up to
+--       1,000,000 (`LARGEST_NUMBER`)
 --   under_sign negative m == the number of size m under a sign
 --   IsReduced f z b == z over b is f in lowest terms
 --   Clears l f == l times f is whole
@@ -24,13 +26,15 @@ pub record IsLowest (n d m b : ℕ) : Type 0 where
   pub in_lowest : IsGcd m b 1
 
 abbrev pub IsFractionInRange : ℕ → ℤ → Type 0
-IsFractionInRange den z = (n : ℕ) × (d : ℕ) × IsLowest (unsigned_abs z) den n d × (n ≤ 1000000) × (d ≤ 1000000)
+IsFractionInRange den z = (n : ℕ) × (d : ℕ) × IsLowest (unsigned_abs z) den n d × (n ≤ 1000000)
+    × (d ≤ 1000000)
 
 abbrev pub under_sign : Bool → ℕ → ℤ
 under_sign negative m = if negative then neg_ℤ (pos m) else pos m
 
 abbrev pub IsReduced : Fraction → ℤ → ℤ → Type 0
-IsReduced f z b = (m : ℕ) × (d : ℕ) × (z ≡ under_sign f.negative m) × (b ≡ pos d) × IsLowest f.num f.den m d
+IsReduced f z b = (m : ℕ) × (d : ℕ) × (z ≡ under_sign f.negative m) × (b ≡ pos d)
+    × IsLowest f.num f.den m d
 
 abbrev pub Clears : ℕ → Fraction → Type 0
 Clears l f = f.den ∣ l * f.num

@@ -3,7 +3,8 @@
 --   fraction_text f == the fraction without its sign; a denominator 1 is left out
 --   plain_text a == the plain part with its sign; nothing where it is 0
 --   k_text b == `k` and the fraction before it; a fraction 1 is left out
---   k_sign first b == the sign before the part with `k`; a plus at the front of the text is left out
+--   k_sign first b == the sign before the part with `k`; a plus at the front of the text is left
+--       out
 --   degree_text a b == the text of a + b*k
 --   IsDegreeText d den text == text is that of the degree d, in units of one over den
 use Rattle.std.specs.Prelude.{◌≡◌, ℕ, ◌==◌, Bool, ◌&&◌, List, [], ◌++◌, if◌then◌else◌, ℤ, unsigned_abs, codes, decimal}
@@ -28,7 +29,9 @@ abbrev pub k_sign : Bool → Fraction → List ℕ
 k_sign first b = if b.negative then codes "-" else (if first then [] else codes "+")
 
 abbrev pub degree_text : Fraction → Fraction → List ℕ
-degree_text a b = if b.num == 0 then (if a.num == 0 then codes "0" else plain_text a) else plain_text a ++ k_sign (a.num == 0) b ++ k_text b
+degree_text a b = if b.num == 0 then (if a.num == 0 then codes "0" else plain_text a)
+    else plain_text a ++ k_sign (a.num == 0) b ++ k_text b
 
 abbrev pub IsDegreeText : Degree → ℕ → List ℕ → Type 0
-IsDegreeText d den text = (a : Fraction) × (b : Fraction) × IsLowestOf d.a den a × IsLowestOf d.b den b × (text ≡ degree_text a b)
+IsDegreeText d den text = (a : Fraction) × (b : Fraction) × IsLowestOf d.a den a
+    × IsLowestOf d.b den b × (text ≡ degree_text a b)

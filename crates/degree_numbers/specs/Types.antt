@@ -4,20 +4,26 @@
 --   name_of ty k == its name
 --   group_of ty k == the number of its noise group
 --   moments_of ty k == its moment number, where one is declared
---   size_in_units ty m == the scaled size |m|_s in the units of the degrees: times their common denominator
+--   size_in_units ty m == the scaled size |m|_s in the units of the degrees: times their common
+--       denominator
 --   is_noise kind == kind is that of a noise
 --   noise_count ty == how many noises stand at the front
 --   noises ty, kernels ty == the entries of the noises, and those behind them
 --   IsScaling dims s == the first dims of five entries are 1 to 10, the others 0
---   IsWritable den z == z over den is written with whole numbers up to 1,000,000, and its size is at most 20
---   IsNoiseEntry den e == e is a noise, of a degree that a file can write, of which no moments are declared
+--   IsWritable den z == z over den is written with whole numbers up to 1,000,000
+--       (`LARGEST_NUMBER`), and its size is at most 20
+--   IsNoiseEntry den e == e is a noise, of a degree that a file can write, of which no moments are
+--       declared
 --   IsMoments moments == the moment number, where one is declared, is at most 20
 --   IsKernelEntry den e == e is a kernel, of a degree above 0 without k that a file can write
 --   AreDifferent names == no name stands there twice
 --   AreNames names == all are names, and different
---   AreInOrder met groups all == each group number is one met before or the next one, and all are met at the end
---   AreDirections past dims is == is are numbers of directions, ascending from the first one behind `past` on, and at most dims
---   AreTypes ty == ty are the types of some equation file that is accepted with all limits, in some common denominator of the degrees up to 1,000,000
+--   AreInOrder met groups all == each group number is one met before or the next one, and all are
+--       met at the end
+--   AreDirections past dims is == is are numbers of directions, ascending from the first one behind
+--       `past` on, and at most dims
+--   AreTypes ty == ty are the types of some equation file that is accepted with all limits, in some
+--       common denominator of the degrees up to 1,000,000
 use Rattle.std.specs.Prelude.{ℕ, ◌≡◌, ◌≢◌, ◌≤◌, ◌<◌, ◌+◌, ◌*◌, ⊤, ◌⊎◌, true, false, Bool, ℤ, pos, ◌≤ℤ◌, ◌<ℤ◌, unsigned_abs, List, [], ◌∷◌, length, map, take, drop, slice_get, unwrap_or, Option, Some, None}
 use Rattle.std.specs.List.{AllByRecursion, prefix_len}
 use Rattle.std.specs.Option.{option_map, option_and_then}
@@ -101,7 +107,8 @@ pub record AreNames (names : List (List ℕ)) : Type 0 where
 
 abbrev pub AreInOrder : ℕ → List ℕ → ℕ → Type 0
 AreInOrder met [] all = met ≡ all
-AreInOrder met (g ∷ gs) all = ((g < met) × AreInOrder met gs all) ⊎ ((g ≡ met) × AreInOrder (met + 1) gs all)
+AreInOrder met (g ∷ gs) all = ((g < met) × AreInOrder met gs all)
+    ⊎ ((g ≡ met) × AreInOrder (met + 1) gs all)
 
 abbrev pub AreDirections : ℕ → ℕ → List ℕ → Type 0
 AreDirections past dims [] = ⊤

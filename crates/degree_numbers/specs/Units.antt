@@ -1,10 +1,14 @@
 -- Common denominators of degrees.
+-- What contracts of public calls say:
 --   fraction_of z b == the fraction z over b
 --   fractions ds == the fractions of the degrees, one after the other
 --   AreUnits fs den == den is the least common denominator of fs, and at most 1,000,000
+--       (`LARGEST_NUMBER`)
 --   IsWholeIn d den == the degree d is whole in units of one over den
 --   IsPast fs == each common denominator of fs passes 1,000,000
---   IsJoined n a b == n is the least common multiple of a and b, or `most` where that is not smaller
+-- Working notions of the code and of proofs:
+--   IsJoined n a b == n is the least common multiple of a and b, or `most` where that is not
+--       smaller
 --   Separates b num den == b divides just the numbers by which num over den becomes whole
 use Rattle.std.specs.Prelude.{ℕ, ◌*◌, ◌<◌, ◌≤◌, ℤ, pos, ◌<ℤ◌, ◌≤ℤ◌, unsigned_abs, List, [], ◌∷◌}
 use Rattle.std.specs.Int.{◌∣◌, is_negative}

@@ -1,4 +1,10 @@
 -- What the parts that the code keeps mean.
+-- What contracts of public calls say:
+--   fraction f == the fraction that is kept as f
+--   part p == the part that is kept as p: its fraction, and whether it has `k`
+--   parts p == what both parts write
+-- Working notions of the code and of proofs:
+--   lowest f == the fraction in lowest terms that is kept as f
 use Rattle.std.specs.Option.{option_map}
 use Rattle.degree_numbers.specs.declared.part.Fraction.{Fraction as KeptFraction}
 use Rattle.degree_numbers.specs.declared.part.Part.{Part as KeptPart}

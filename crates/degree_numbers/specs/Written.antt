@@ -2,7 +2,7 @@
 --   has_k w == the coefficient of k is not 0
 --   above_zero w == the plain part is not 0, and no minus stands before it
 --   IsWritten w d == d is w, each fraction in lowest terms
---   too_large w n == the refusal of w for its number n past 1,000,000
+--   too_large w n == the refusal of w for its number n past 1,000,000 (`LARGEST_NUMBER`)
 --   IsRead text result == what a text is read as
 --   in_units_of l f == f in units of one over l, where l clears it
 --   degree_in l w == the degree w in units of one over l, where l clears both fractions

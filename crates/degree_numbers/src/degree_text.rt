@@ -86,7 +86,8 @@ fn second_of(text: &[u8]) -> Option<Option<Part>>
 
 #[tactic(auto, unfolding(crate::specs::DegreeText::parts_at))]
 fn parts_of(text: &[u8]) -> Option<Parts>
-    ensures { option_map (λ x. (part x.first, option_map part x.second)) result ≡ parts_at text.now }
+    ensures { option_map (λ x. (part x.first, option_map part x.second)) result
+        ≡ parts_at text.now }
 {
     let (first, rest) = first_of(text)?;
     let second = second_of(rest)?;

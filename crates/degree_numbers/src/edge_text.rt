@@ -57,7 +57,8 @@ pub fn put_edge_type(
 ) -> Result<(), AllocError>
     requires dims { types.now.dims ≤ 5 }
     requires known { kind.0 < length types.now.list }
-    ensures { OnOk result (out.new.items ≡ out.old.items ++ edge_type_text types.now kind.0 p.now.entries) }
+    ensures { OnOk result (out.new.items ≡ out.old.items
+        ++ edge_type_text types.now kind.0 p.now.entries) }
 {
     out.extend_from_slice(types.list.as_slice()[kind.0 as usize].name.bytes())?;
     if p.is_zero() {

@@ -1,4 +1,5 @@
-//! Multiindices, degrees, names and the types of an equation.
+//! Multiindices, degrees, names and the types of an equation. Trees, rules and files are all
+//! written over them, so they stand below.
 #![tactic(auto)]
 
 mod degree;

@@ -4,7 +4,19 @@ ghost use Rattle.degree_numbers.specs.Multi.{is_zero, plus_of, minus_of, IsAtMos
 
 use std::cmp::Ordering;
 
-/// A multiindex, by direction. Entries past the number of directions are 0.
+/// A multiindex, by direction: a derivative, or a decoration of a node.
+///
+/// **Order.** Lexicographic from the first entry, the direction of time where there is one; `order`
+/// and the derived order are this one.
+///
+/// **Units.** Entries count derivatives or powers; the scaled size of a multiindex, the sum of its
+/// entries times those of the scaling, is that of the types.
+///
+/// **Invariants.** There are always five entries, `MOST_DIMENSIONS`. Those past the number of
+/// directions are 0: calls that need it ask for it, since a multiindex doesn't know the directions.
+///
+/// **Example.** In time and one space direction, of scaling 2 and 1, two derivatives in space and
+/// one in time are the entries `[1, 2, 0, 0, 0]`, printed as `(1,2)`, of scaled size 4.
 #[derive(Clone, Copy, Debug, PartialEq, Eq, PartialOrd, Ord, Hash)]
 pub struct Multi {
     pub entries: [u32; 5],
@@ -27,7 +39,8 @@ impl Multi {
 
     /// The sum, entry by entry.
     pub fn plus(&self, other: &Multi) -> Multi
-        requires { (k : ℕ) → k < 5 → slice_index self.now.entries k + slice_index other.now.entries k < 2 ^ 31 }
+        requires { (k : ℕ) → k < 5 →
+            slice_index self.now.entries k + slice_index other.now.entries k < 2 ^ 31 }
         ensures { result.entries ≡ plus_of self.now.entries other.now.entries }
     {
         let a = &self.entries;
@@ -45,7 +58,8 @@ impl Multi {
 
     /// The difference, entry by entry: `None` exactly where an entry of `other` is greater.
     pub fn minus(&self, other: &Multi) -> Option<Multi>
-        ensures some { IfSome result (λ m. m.entries ≡ minus_of self.now.entries other.now.entries) }
+        ensures some { IfSome result (λ m. m.entries
+            ≡ minus_of self.now.entries other.now.entries) }
         ensures variant { IsSome result ↔ IsAtMost other.now.entries self.now.entries }
     {
         if other.at_most(self) {

@@ -7,7 +7,8 @@ use std::marker::Model;
 
 const ROOM: usize = 16;
 
-/// A name: a letter and at most 15 letters, digits or `_`, but not `X`, `E`, `T` or `k`. Contracts see its text.
+/// A name: a letter and at most 15 letters, digits or `_`, but not `X`, `E`, `T` or `k`. Contracts
+/// see its text.
 #[derive(Clone, Copy, Debug, PartialEq, Eq)]
 pub struct Name {
     buf: [u8; ROOM],

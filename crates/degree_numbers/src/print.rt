@@ -9,8 +9,8 @@ use crate::lowest::Lowest;
 use crate::small_text::SmallText;
 use itoa::Buffer;
 
-/// The text of a degree, in place of what the buffer holds: the plain part where it is not 0, then the part with `k` where it is not 0, each a fraction in lowest
-/// terms; `0` where both are 0.
+/// The text of a degree, in place of what the buffer holds: the plain part where it is not 0, then
+/// the part with `k` where it is not 0, each a fraction in lowest terms; `0` where both are 0.
 pub fn print_degree(d: Degree, units: Units, out: &mut SmallText)
     requires above { pos 0 <ℤ units.den }
     requires fits { units.den ≤ℤ pos 1000000 }

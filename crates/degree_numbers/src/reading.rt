@@ -12,7 +12,8 @@ use crate::written::WrittenDegree;
 
 const LARGEST: u64 = 1_000_000;
 
-/// The degree that a text writes. Refusals: `DegreeText` where the text is no degree text, then `NumberTooLarge` where a written number passes 1,000,000.
+/// The degree that a text writes. Refusals: `DegreeText` where the text is no degree text, then
+/// `NumberTooLarge` where a written number passes 1,000,000 (`LARGEST_NUMBER`).
 pub fn read_degree(text: &[u8]) -> Result<WrittenDegree, DegreeRefusal>
     ensures { IsRead text.now result }
 {
@@ -40,8 +41,10 @@ pub fn read_degree(text: &[u8]) -> Result<WrittenDegree, DegreeRefusal>
 
 /// The fraction of the part with `k`, or of the plain one, and zero where it is not written.
 pub fn fraction_with(has_k: bool, parts: Parts) -> Fraction
-    ensures value { fraction result ≡ fraction_with has_k (part parts.first) (option_map part parts.second) }
-    ensures small { first_large (part parts.first) (option_map part parts.second) ≡ None → (result.num ≤ 1000000) × (result.den ≤ 1000000) }
+    ensures value { fraction result ≡ fraction_with has_k (part parts.first)
+        (option_map part parts.second) }
+    ensures small { first_large (part parts.first) (option_map part parts.second) ≡ None →
+        (result.num ≤ 1000000) × (result.den ≤ 1000000) }
 {
     if parts.first.has_k == has_k {
         return parts.first.fraction;
@@ -56,7 +59,7 @@ pub fn fraction_with(has_k: bool, parts: Parts) -> Fraction
     }
 }
 
-/// The first written number past 1,000,000.
+/// The first written number past 1,000,000 (`LARGEST_NUMBER`).
 pub fn first_large(parts: Parts) -> Option<u64>
     ensures value { result ≡ first_large (part parts.first) (option_map part parts.second) }
     ensures fits { IfSome result (λ n. n < 2 ^ 63) }

@@ -5,13 +5,14 @@
 pub enum DegreeRefusal {
     /// The text is no degree.
     DegreeText,
-    /// A written number passes 1,000,000: the first such number, which stops at 2^63-1; whether the coefficient of `k` is not 0; whether the plain part
-    /// is not 0 and has no minus sign.
+    /// A written number passes 1,000,000 (`LARGEST_NUMBER`): the first such number, which stops at
+    /// 2^63-1; whether the coefficient of `k` is not 0; whether the plain part is not 0 and has no
+    /// minus sign.
     NumberTooLarge {
         count: i64,
         has_k: bool,
         above_zero: bool,
     },
-    /// The least common denominator passes 1,000,000.
+    /// The least common denominator passes 1,000,000 (`LARGEST_NUMBER`).
     DenominatorTooLarge,
 }

@@ -32,12 +32,14 @@ fn joined(a: u64, b: u64) -> u64
     (a / gcd(a, b)).saturating_mul(b).min(MOST)
 }
 
-/// The least common denominator of fractions and one more, where `common` is that of the fractions; it stops at 2^63-1.
+/// The least common denominator of fractions and one more, where `common` is that of the fractions;
+/// it stops at 2^63-1.
 pub fn with_denominator(common: u64, num: u64, den: u64) -> u64
     requires common { 0 < common }
     requires den { 0 < den }
     ensures above { 0 < result }
-    ensures value { (negative : Bool) (fs : List Plain) → IsCommon common fs → IsCommon result (fs ++ record { negative = negative; num = num; den = den } ∷ []) }
+    ensures value { (negative : Bool) (fs : List Plain) → IsCommon common fs →
+        IsCommon result (fs ++ record { negative = negative; num = num; den = den } ∷ []) }
 {
     if common >= MOST {
         return common;
@@ -49,7 +51,9 @@ pub fn with_denominator(common: u64, num: u64, den: u64) -> u64
 fn with_degree(common: u64, w: &WrittenDegree) -> u64
     requires { 0 < common }
     ensures above { 0 < result }
-    ensures value { (fs : List Plain) → IsCommon common fs → IsCommon result (fs ++ fraction_of w.now.a_num w.now.a_den ∷ fraction_of w.now.b_num w.now.b_den ∷ []) }
+    ensures value { (fs : List Plain) → IsCommon common fs →
+        IsCommon result (fs ++ fraction_of w.now.a_num w.now.a_den ∷ fraction_of w.now.b_num
+        w.now.b_den ∷ []) }
 {
     let common = with_denominator(common, w.a_num.unsigned_abs(), w.a_den.unsigned_abs());
     with_denominator(common, w.b_num.unsigned_abs(), w.b_den.unsigned_abs())
@@ -66,7 +70,8 @@ pub fn common_denominator(list: &[WrittenDegree]) -> u64
     common
 }
 
-/// The least common denominator of the degrees. Refusal: `DenominatorTooLarge` exactly where it passes 1,000,000.
+/// The least common denominator of the degrees. Refusal: `DenominatorTooLarge` exactly where it
+/// passes 1,000,000 (`LARGEST_NUMBER`).
 pub fn join_units(list: &[WrittenDegree]) -> Result<Units, DegreeRefusal>
     ensures ok { IfOk result (λ u. AreUnits (fractions list.now) u.den) }
     ensures whole { IfOk result (λ u. AllByRecursion (λ d. IsWholeIn d u.den) list.now) }

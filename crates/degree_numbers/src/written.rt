@@ -2,8 +2,9 @@
 ghost use Rattle.std.specs.Prelude.{◌≤◌, ◌<ℤ◌, ◌≤ℤ◌, unsigned_abs, pos};
 ghost use Rattle.std.specs.Int.{IsGcd};
 
-/// The degree `a + b*k` as it is written: the fractions `a_num / a_den` and `b_num / b_den` in lowest terms, with denominators from 1 to 1,000,000 and numerators
-/// of absolute value at most 1,000,000. Zero is 0 over 1.
+/// The degree `a + b*k` as it is written: the fractions `a_num / a_den` and `b_num / b_den` in
+/// lowest terms, with denominators from 1 to 1,000,000 (`LARGEST_NUMBER`) and numerators of
+/// absolute value at most 1,000,000. Zero is 0 over 1.
 #[derive(Clone, Copy, Debug, PartialEq, Eq)]
 pub struct WrittenDegree {
     pub a_num: i64,

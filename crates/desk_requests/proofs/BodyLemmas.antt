@@ -19,7 +19,8 @@ agrees n m h = grind (arith, nat_tests)
 pub only_text-other : (key : List ℕ) (es : List Entry) → (length es ≡ 1 → ⊥) → only_text key (members_view es) ≡ None
 only_text-other key es h = rw (members_len-members_view es, differs (length es) 1 h)
 
-pub only_text-one : (key : List ℕ) (es : List Entry) → length es ≡ 1 → only_text key (members_view es) ≡ option_and_then as_str (get_member key (members_view es))
+pub only_text-one : (key : List ℕ) (es : List Entry) → length es ≡ 1 →
+    only_text key (members_view es) ≡ option_and_then as_str (get_member key (members_view es))
 only_text-one key es h = rw (members_len-members_view es, agrees (length es) 1 h)
 
 not_utf8 : (bs : List ℕ) → ¬ (IsUtf8 bs) → is_utf8 bs ≡ false

@@ -1,3 +1,4 @@
+pub mod Begins
 mod BodyLemmas
 mod Fronts
 mod Inserting
@@ -5,4 +6,5 @@ mod Numbers
 mod Paths
 pub mod ProjectNames
 mod Seeking
-mod Stays
+pub mod Stays
+mod Waits

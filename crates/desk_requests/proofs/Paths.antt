@@ -27,7 +27,8 @@ route_at part = (project_row part).1
 abbrev all_route : Found
 all_route = projects_row.1
 
--- what is left of the routes after `/projects`, after the slash, after a name, and after the slash behind it
+-- what is left of the routes after `/projects`, after the slash, after a name, and after the slash
+-- behind it
 abbrev top_rows : RowsOf Found
 top_rows =
     (codes "/" ++ param_token ∷ codes "/detail", route_at Parts.Detail)
@@ -74,7 +75,8 @@ param_none : (back : List ℕ) → param_step end_rows (47 ∷ back) ≡ (0, [])
 unfolding matchit_on_literals
 param_none back = refl
 
-at_name : (c : ℕ) (path : List ℕ) → c < 256 → (n : ℕ) (rs : RowsOf Found) → param_step end_rows (c ∷ path) ≡ (n, rs) → seek 0 name_rows (c ∷ path) ≡ seek (n - 1) rs path
+at_name : (c : ℕ) (path : List ℕ) → c < 256 → (n : ℕ) (rs : RowsOf Found) →
+    param_step end_rows (c ∷ path) ≡ (n, rs) → seek 0 name_rows (c ∷ path) ≡ seek (n - 1) rs path
 unfolding seek
 at_name c path small n rs h =
     let byte : (256 == c) ≡ false = grind (arith, nat_tests) in
@@ -126,7 +128,8 @@ found_tail (b ∷ back) r h =
     ]
 
 -- a name and a slash behind it
-found_front : (front back : List ℕ) (r : Found) → AllByRecursion (λ b. b < 256) front → has_slash front ≡ false → seek 0 name_rows (front ++ 47 ∷ back) ≡ Some r → EndsAs (47 ∷ back) r
+found_front : (front back : List ℕ) (r : Found) → AllByRecursion (λ b. b < 256) front →
+    has_slash front ≡ false → seek 0 name_rows (front ++ 47 ∷ back) ≡ Some r → EndsAs (47 ∷ back) r
 found_front [] back r small h s = absurd (none_some r (sym (at_name 47 back (omega arith) 0 [] (param_none back) ∙ seek_none (0 - 1) back) ∙ s))
 found_front (d ∷ front) back r small h s =
     let size : length (d ∷ front) - 1 ≡ length front = omega arith in
@@ -197,7 +200,9 @@ named part name p h =
 name_is : (target name : List ℕ) (part : Part) → target ≡ codes "/projects/" ++ (name ++ tail_of part) → has_slash name ≡ false → name_in target ≡ name
 name_is target name part e h = ap name_in e ∙ take_front name part h
 
-from_route : (target : List ℕ) (p : Place) (o : Option Found) → AllByRecursion (λ b. b < 256) target → first desk_rows target ≡ o → place_on o target ≡ Some p → target ≡ path_of p
+from_route : (target : List ℕ) (p : Place) (o : Option Found) →
+    AllByRecursion (λ b. b < 256) target → first desk_rows target ≡ o → place_on o target ≡ Some p →
+    target ≡ path_of p
 from_route target p None small e h = absurd (none_some p h)
 from_route target p (Some r) small e h =
     let parts = strip (codes "/projects") top_rows target r (bytes_small (codes "/projects") refl) e in
@@ -259,14 +264,17 @@ detail_end : seek 0 slash_rows (codes "/detail") ≡ Some (route_at Parts.Detail
 unfolding matchit_on_literals
 detail_end = refl
 
-found_behind : (part : Part) (c : ℕ) (front back : List ℕ) → c < 256 → has_slash (c ∷ front) ≡ false → seek 0 slash_rows (47 ∷ back) ≡ Some (route_at part) → seek 0 name_rows ((c ∷ front) ++ 47 ∷ back) ≡ Some (route_at part)
+found_behind : (part : Part) (c : ℕ) (front back : List ℕ) → c < 256 →
+    has_slash (c ∷ front) ≡ false → seek 0 slash_rows (47 ∷ back) ≡ Some (route_at part) →
+    seek 0 name_rows ((c ∷ front) ++ 47 ∷ back) ≡ Some (route_at part)
 found_behind part c front back small h end =
     let size : length (c ∷ front) - 1 ≡ length front = omega arith in
     at_name c (front ++ 47 ∷ back) small (length (c ∷ front)) slash_rows (param_cut c front back h)
     ∙ (ap (λ n. seek n slash_rows (front ++ 47 ∷ back)) size ∙ (seek_over slash_rows front (47 ∷ back) ∙ end))
 
 -- the path of a part of a project
-found_at : (part : Part) (c : ℕ) (front : List ℕ) → c < 256 → has_slash (c ∷ front) ≡ false → seek 0 name_rows ((c ∷ front) ++ tail_of part) ≡ Some (route_at part)
+found_at : (part : Part) (c : ℕ) (front : List ℕ) → c < 256 → has_slash (c ∷ front) ≡ false →
+    seek 0 name_rows ((c ∷ front) ++ tail_of part) ≡ Some (route_at part)
 found_at Parts.File c front small h =
     let size : length (c ∷ front) - 1 ≡ length front = omega arith in
     ap (λ q. seek 0 name_rows q) (append-nil (c ∷ front))
@@ -281,7 +289,8 @@ name_parts c front h =
     let parts = name_bytes c front h in
     (start_small c parts.0, bytes_no_slash (c ∷ front) parts.1)
 
-first_at : (part : Part) (c : ℕ) (front : List ℕ) → is_project_name (c ∷ front) ≡ true → first desk_rows (path_of (Project part (c ∷ front))) ≡ Some (route_at part)
+first_at : (part : Part) (c : ℕ) (front : List ℕ) → is_project_name (c ∷ front) ≡ true →
+    first desk_rows (path_of (Project part (c ∷ front))) ≡ Some (route_at part)
 first_at part c front h =
     let parts = name_parts c front h in
     follow (codes "/projects") top_rows (47 ∷ ((c ∷ front) ++ tail_of part)) (bytes_small (codes "/projects") refl)

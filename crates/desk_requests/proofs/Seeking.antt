@@ -53,7 +53,8 @@ module _ {K : Type 0} where
   or_none (Some key) = refl
 
   -- where no route goes on with a parameter, the next byte decides
-  pub seek_byte : (rs : RowsOf K) (b : ℕ) (path : List ℕ) → step param_token rs ≡ [] → step catch_all_token rs ≡ [] → seek 0 rs (b ∷ path) ≡ seek 0 (step b rs) path
+  pub seek_byte : (rs : RowsOf K) (b : ℕ) (path : List ℕ) → step param_token rs ≡ [] →
+      step catch_all_token rs ≡ [] → seek 0 rs (b ∷ path) ≡ seek 0 (step b rs) path
   unfolding seek
   seek_byte rs b path no_param no_rest =
       rw (no_param, no_rest, none_of_none (b ∷ path), seek_none ((param_step {K = K} [] (b ∷ path)).0 - 1) path) (or_none (seek 0 (step b rs) path))

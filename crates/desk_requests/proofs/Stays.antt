@@ -3,11 +3,10 @@ use Rattle.std.proofs.Common.{◌≡◌, ℕ, ◌≤◌, nat_lt, List, ◌++◌,
 use Rattle.std.proofs.lemmas.Bool.{cases_Bool}
 use Rattle.std.proofs.lemmas.Bool.Decides.{nat_tests}
 use Rattle.std.proofs.lemmas.List.{append_assoc, take-append-le, length-append}
-use Rattle.httparse.specs.Grammar.{RequestHead}
 use Rattle.httparse.specs.Spans.{name_and_value}
-use Rattle.httparse.proofs.GrammarLemmas.{request_unique, ReadsRequest-append}
+use Rattle.httparse.proofs.GrammarLemmas.{request_unique}
 use Rattle.desk_requests.specs.Fields.{Field, has_field, transfer_encoding, body_length}
-use Rattle.desk_requests.specs.Heads.{BeginsWith, IsHopeless}
+use Rattle.desk_requests.specs.Heads.{IsHopeless}
 use Rattle.desk_requests.specs.Places.{place_of, ask_of}
 use Rattle.desk_requests.specs.Decisions.{most_body, on_body, on_length, on_ask, on_place, after_head, Decides, by_head, by_fault, not_yet, closed, DecidesAtEnd, with_head, no_head}
 use Rattle.desk_requests.specs.declared.decision.Ask.{Ask}
@@ -18,9 +17,11 @@ use Rattle.desk_requests.specs.declared.decision.Member.{Member}
 use Rattle.desk_requests.specs.declared.fields.BodyLength.{BodyLength}
 use Rattle.desk_requests.specs.declared.fields.BodyLength.TheVariants.{Absent, Malformed, Known}
 use Rattle.desk_requests.specs.declared.place.Place.{Place}
-use Rattle.desk_requests.proofs.Fronts.{hopeless_now}
+use Rattle.desk_requests.proofs.Fronts.{begins_more, hopeless_now}
 
-body_stays : (member : Member) (name : List ℕ) (n : ℕ) (rest more : List ℕ) → ¬ (on_body member name n rest ≡ Open) → on_body member name n (rest ++ more) ≡ on_body member name n rest
+body_stays : (member : Member) (name : List ℕ) (n : ℕ) (rest more : List ℕ) →
+    ¬ (on_body member name n rest ≡ Open) →
+    on_body member name n (rest ++ more) ≡ on_body member name n rest
 body_stays member name n rest more h =
     elim (cases_Bool (nat_lt most_body n)) [
       | inl large ↦ rw large refl
@@ -33,7 +34,8 @@ body_stays member name n rest more h =
       ]
     ]
 
-length_stays : (ask : Ask) (len : BodyLength) (rest more : List ℕ) → ¬ (on_length ask len rest ≡ Open) → on_length ask len (rest ++ more) ≡ on_length ask len rest
+length_stays : (ask : Ask) (len : BodyLength) (rest more : List ℕ) →
+    ¬ (on_length ask len rest ≡ Open) → on_length ask len (rest ++ more) ≡ on_length ask len rest
 length_stays (Plain command) Malformed rest more h = refl
 length_stays (Plain command) Absent rest more h = refl
 length_stays (Plain command) (Known n) rest more h = refl
@@ -41,7 +43,9 @@ length_stays (WithText member name) Malformed rest more h = refl
 length_stays (WithText member name) Absent rest more h = refl
 length_stays (WithText member name) (Known n) rest more h = body_stays member name n rest more h
 
-ask_stays : (place : Place) (ask : Option Ask) (fields : List Field) (rest more : List ℕ) → ¬ (on_ask place ask fields rest ≡ Open) → on_ask place ask fields (rest ++ more) ≡ on_ask place ask fields rest
+ask_stays : (place : Place) (ask : Option Ask) (fields : List Field) (rest more : List ℕ) →
+    ¬ (on_ask place ask fields rest ≡ Open) →
+    on_ask place ask fields (rest ++ more) ≡ on_ask place ask fields rest
 ask_stays place None fields rest more h = refl
 ask_stays place (Some ask) fields rest more h =
     elim (cases_Bool (has_field transfer_encoding fields)) [
@@ -49,12 +53,11 @@ ask_stays place (Some ask) fields rest more h =
       | inr plain ↦ rw plain (length_stays ask (body_length fields) rest more (λ e. h (rw plain e)))
     ]
 
-place_stays : (place : Option Place) (method : List ℕ) (fields : List Field) (rest more : List ℕ) → ¬ (on_place place method fields rest ≡ Open) → on_place place method fields (rest ++ more) ≡ on_place place method fields rest
+place_stays : (place : Option Place) (method : List ℕ) (fields : List Field) (rest more : List ℕ) →
+    ¬ (on_place place method fields rest ≡ Open) →
+    on_place place method fields (rest ++ more) ≡ on_place place method fields rest
 place_stays None method fields rest more h = refl
 place_stays (Some place) method fields rest more h = ask_stays place (ask_of place method) fields rest more h
-
-begins_more : (bytes more : List ℕ) (head : RequestHead) (rest : List ℕ) → BeginsWith bytes head rest → BeginsWith (bytes ++ more) head (rest ++ more)
-begins_more bytes more head rest begins = record { reads = ReadsRequest-append bytes head rest more begins.reads; short = begins.short; few = begins.few }
 
 hopeless_more : (bytes more : List ℕ) → IsHopeless bytes → IsHopeless (bytes ++ more)
 hopeless_more bytes more h further head rest begins = h (more ++ further) head rest (rw (append_assoc bytes more further) at begins)

@@ -1,5 +1,6 @@
 -- A body is the text of a JSON object with one member, a text.
---   only_text key ms == the text of the one member of an object, where it has this key and is a text
+--   only_text key ms == the text of the one member of an object, where it has this key and is a
+--       text
 --   text_of key d == the same of a value
 --   body_text key bytes == the text in a body; None where the body is outside the grammar
 use Rattle.std.specs.Prelude.{ℕ, List, Option, None, option_and_then, if◌then◌else◌, ◌==◌}

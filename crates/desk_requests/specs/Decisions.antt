@@ -3,15 +3,19 @@
 --       refusals
 --   Decides bytes d == d is what the bytes decide, or Open where they decide nothing yet
 --   DecidesAtEnd bytes d == d is what they decide where no more come
+--   StaysOpen bytes n == they decide nothing, and nothing is decided before there are n of them;
+--       n is more than there are, and at most most_length
 -- and, on the way there:
 --   most_body == the greatest length of a body
+--   most_length == the greatest length of a head with its body
+--   body_size length == how many bytes of a body can be wanted where its length is known so
 --   command_with member name text == the command that takes this text
 --   on_text, on_body == the decision on the text of a body, or its refusal; on the bytes after the
 --       head, of which the body is the first n
 --   on_length, on_ask, on_place == the decision where the length of the body is known so; where the
 --       method asks for this; where the target is this place
 --   closed d == the decision where no more bytes come: what is open is refused
-use Rattle.std.specs.Prelude.{◌≡◌, ◌<◌, ℕ, nat_lt, List, length, take, map, if◌then◌else◌, Option, Some, None}
+use Rattle.std.specs.Prelude.{◌≡◌, ◌<◌, ◌≤◌, ℕ, ◌+◌, min, nat_lt, List, ◌++◌, length, take, map, if◌then◌else◌, Option, Some, None}
 use Rattle.httparse.specs.Grammar.{RequestHead, MayBecomeRequest}
 use Rattle.httparse.specs.Spans.{name_and_value}
 use Rattle.desk_requests.specs.Body.{body_text}
@@ -34,6 +38,14 @@ use Rattle.desk_requests.specs.declared.place.Place.{Place}
 
 abbrev pub most_body : ℕ
 most_body = 1048576
+
+abbrev pub most_length : ℕ
+most_length = 1064960
+
+abbrev pub body_size : BodyLength → ℕ
+body_size Absent = 0
+body_size Malformed = 0
+body_size (Known n) = min n most_body
 
 abbrev pub command_with : Member → List ℕ → List ℕ → Command
 command_with File name text = Commands.Add name text
@@ -77,6 +89,11 @@ pub data Decides (bytes : List ℕ) (d : Decision) : Type 0 where
   by_fault : IsHopeless bytes → d ≡ Refused BadRequest → Decides bytes d
   not_yet : IsHeadless bytes → length bytes < most_bytes → MayBecomeRequest bytes → d ≡ Open →
       Decides bytes d
+
+pub record StaysOpen (bytes : List ℕ) (n : ℕ) : Type 0 where
+  pub more : length bytes < n
+  pub bound : n ≤ most_length
+  pub waits : (next : List ℕ) → length bytes + length next < n → Decides (bytes ++ next) Open
 
 abbrev pub closed : Decision → Decision
 closed Open = Refused BadRequest

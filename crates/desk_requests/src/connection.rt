@@ -1,11 +1,12 @@
 // What the bytes of a connection decide.
-ghost use Rattle.std.specs.Prelude.{◌≡◌, length, map, take, drop, All, IsUtf8, IfOk};
+ghost use Rattle.std.specs.Prelude.{◌≡◌, ◌≤◌, length, map, take, drop, All, IsUtf8, IfOk};
 ghost use Rattle.httparse.specs.Spans.{IsRequestWithin, IsHeaderWithin, header_bytes, span_bytes};
 ghost use Rattle.desk_requests.specs.Places.{place_of};
-ghost use Rattle.desk_requests.specs.Decisions.{command_with, on_body, on_length, on_ask, on_place, Decides, DecidesAtEnd};
+ghost use Rattle.desk_requests.specs.Decisions.{command_with, on_body, on_length, on_ask, on_place, body_size, Decides, DecidesAtEnd, StaysOpen};
+ghost use Rattle.desk_requests.specs.Fields.{body_length};
 
 use crate::body::body_text;
-use crate::decision::{Ask, Command, Decision, Member, Refusal};
+use crate::decision::{Ask, Command, Decision, Member, Progress, Refusal};
 use crate::fields::{BodyLength, body_length, has_transfer_encoding};
 use crate::place::{Place, Routes};
 use httparse::Status;
@@ -119,22 +120,51 @@ fn place_of(routes: &Routes, target: &[u8]) -> Option<Place>
     }
 }
 
-/// What the bytes of a connection decide, as far as they have come. Refused only for want of
-/// memory.
-pub fn decide(alloc: Global, routes: &Routes, bytes: &[u8]) -> Result<Decision, AllocError>
-    ensures { IfOk result (Decides bytes.now) }
+// How many bytes of a body can be wanted, by the fields of the head.
+fn body_size(bytes: &[u8], headers: &[HeaderSpan]) -> usize
+    requires { All (IsHeaderWithin (length bytes.now)) headers.now }
+    ensures size { result ≡ body_size (body_length (map (header_bytes bytes.now) headers.now)) }
+    ensures small { result ≤ 1048576 }
+{
+    match body_length(bytes, headers) {
+        BodyLength::Known(len) => len.min(MOST_BODY) as usize,
+        _ => 0,
+    }
+}
+
+/// What the bytes of a connection decide, as far as they have come, and how many are wanted before
+/// more is decided. Refused only for want of memory.
+pub fn look(alloc: Global, routes: &Routes, bytes: &[u8]) -> Result<Progress, AllocError>
+    ensures decision { IfOk result (λ p. Decides bytes.now p.decision) }
+    ensures wanted { IfOk result (λ p. p.decision ≡ Decision.Open → StaysOpen bytes.now p.wanted) }
 {
     let mut headers = [EMPTY_HEADER_SPAN; MOST_FIELDS];
     let front = &bytes[..bytes.len().min(MOST_BYTES)];
     match parse_request(front, &mut headers) {
         Ok(Status::Complete(head)) => {
             let place = place_of(routes, head.path.of(front));
-            on_place(alloc, place, front, &head, &headers, &bytes[head.len..])
+            let decision = on_place(alloc, place, front, &head, &headers, &bytes[head.len..])?;
+            let size = body_size(front, &headers[..head.headers]);
+            Ok(Progress {
+                decision,
+                wanted: head.len + size,
+            })
         }
-        Ok(Status::Partial) if bytes.len() < MOST_BYTES => Ok(Decision::Open),
-        Ok(Status::Partial) => Ok(Decision::Refused(Refusal::BadRequest)),
-        Err(_) => Ok(Decision::Refused(Refusal::BadRequest)),
+        Ok(Status::Partial) if bytes.len() < MOST_BYTES => Ok(Progress {
+            decision: Decision::Open,
+            wanted: bytes.len() + 1,
+        }),
+        Ok(Status::Partial) => Ok(Progress::hopeless()),
+        Err(_) => Ok(Progress::hopeless()),
     }
+}
+
+/// What the bytes of a connection decide, as far as they have come. Refused only for want of
+/// memory.
+pub fn decide(alloc: Global, routes: &Routes, bytes: &[u8]) -> Result<Decision, AllocError>
+    ensures { IfOk result (Decides bytes.now) }
+{
+    Ok(look(alloc, routes, bytes)?.decision)
 }
 
 /// What the bytes of a connection decide where no more come. Refused only for want of memory.

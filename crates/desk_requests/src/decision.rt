@@ -16,6 +16,15 @@ pub enum Decision {
     Asked(Command),
 }
 
+/// What the bytes of a connection decide, and how many are wanted.
+#[derive(Debug, Drop)]
+pub struct Progress {
+    /// What they decide.
+    pub decision: Decision,
+    /// Where that is nothing yet: nothing is decided before there are so many bytes.
+    pub wanted: usize,
+}
+
 /// What a request asks for.
 #[derive(Debug, Drop)]
 pub enum Command {
@@ -77,6 +86,18 @@ pub enum Ask {
     Plain(Command),
     /// A command that takes the text in its body.
     WithText(Member, ProjectName),
+}
+
+impl Progress {
+    /// That no head can come.
+    pub(crate) fn hopeless() -> Progress
+        ensures { result.decision ≡ Decision.Refused Refusal.BadRequest }
+    {
+        Progress {
+            decision: Decision::Refused(Refusal::BadRequest),
+            wanted: 0,
+        }
+    }
 }
 
 impl Refusal {

@@ -14,8 +14,8 @@ mod place;
 #[cfg(test)]
 mod tests;
 
-pub use connection::{decide, decide_at_end};
-pub use decision::{Ask, Command, Decision, Member, Methods, Refusal};
+pub use connection::{decide, decide_at_end, look};
+pub use decision::{Ask, Command, Decision, Member, Methods, Progress, Refusal};
 pub use fields::BodyLength;
 pub use laws::{decided_for_good, places_by_their_paths};
 pub use place::{Method, Part, Place, Routes};

@@ -8,8 +8,8 @@
 --   unavailable_of == the response where there is no memory: 503 with the line of status 17
 --   type_of c == the type of a content
 --   methods_of ms == the names of methods, joined
---   start_of, length_of, allow_of, end_of == the first line, that of the length, for 405 that of the
---       methods, and the lines from there to the empty one
+--   start_of, length_of, allow_of, end_of == the first line, that of the length, for 405 that of
+--       the methods, and the lines from there to the empty one
 --   head_of s content n == all lines, where the body has n bytes
 use Rattle.std.specs.Prelude.{ℕ, List, [], ◌∷◌, ◌++◌, codes, length}
 use Rattle.http.specs.StatusCode.{code_digits}

@@ -17,7 +17,8 @@ use Rattle.elementary_diff.specs.Symmetry.{root_edge, root_edges, symmetry_of}
 use Rattle.elementary_diff.specs.Orders.{factorials_above, node_factorials, AreDrawings}
 use Rattle.elementary_diff.proofs.RootEdges.{without, with-without, without-with, in-with, without-canonical, child-canonical, length-without, edge_count-without, factorials-without, symmetry-without}
 
--- each of the trees cs above one edge of the type of e, in front of the root edges of each of the trees ts
+-- each of the trees cs above one edge of the type of e, in front of the root edges of each of the
+-- trees ts
 abbrev grafts : Planted → List Plain → List Plain → List Plain
 grafts e cs ts = flat_map (λ c. map (λ t. graft e.kind e.p c t) ts) cs
 
@@ -64,7 +65,9 @@ drawing_is (suc n) (graft l q d u) s h k =
     (ap (λ (c : Plain). with_edge (root_edge e.kind e.p c) (canon g.rest)) above ∙ ap (with_edge e) beside ∙ with-without e t h there)
 
 -- all are there
-in_drawings : (n : ℕ) (t : Plain) (e : Planted) (c u : Plain) → IsIn e (root_edges t) → IsIn c (drawings_by n e.child) → IsIn u (drawings_by n (without e t)) → IsIn (graft e.kind e.p c u) (drawings_by (suc n) t)
+in_drawings : (n : ℕ) (t : Plain) (e : Planted) (c u : Plain) → IsIn e (root_edges t) →
+    IsIn c (drawings_by n e.child) → IsIn u (drawings_by n (without e t)) →
+    IsIn (graft e.kind e.p c u) (drawings_by (suc n) t)
 in_drawings n (bare m) e c u there above beside = absurd there
 in_drawings n (graft l q d v) e c u there above beside =
     let t = graft l q d v in

@@ -1,4 +1,5 @@
--- Walks over the edges of a node of a pool, from the last: the product of the differentials above the kernel edges.
+-- Walks over the edges of a node of a pool, from the last: the product of the differentials above
+-- the kernel edges.
 use Rattle.std.proofs.Common.{◌≡◌, ℕ, zero, suc, ◌+◌, ◌*◌, ◌<◌, ◌≤◌, List, [], ◌∷◌, drop, length, map, get_or, refl, sym, ap, ◌∙◌, arith, Some, None, Option}
 use Rattle.std.proofs.lemmas.Nat.{mul-le}
 use Rattle.degree_numbers.specs.declared.Types.{Types}
@@ -40,7 +41,8 @@ child_mass ty sides c es i = mass_of ty sides (get_or es i no_edge).kind.0 (tree
 abbrev pub child_factor : Types → Sides → Content → List EdgeTo → ℕ → List PlainTerm
 child_factor ty sides c es i = differential_of ty sides (get_or es i no_edge).kind.0 (tree_at c (get_or es i no_edge).child.0)
 
-pub left-kernel : (ty : Types) (sides : Sides) (c : Content) (es : List EdgeTo) (i : ℕ) → i < length es → kernel_edge (kind_of ty (get_or es i no_edge).kind.0) ≡ 1 →
+pub left-kernel : (ty : Types) (sides : Sides) (c : Content) (es : List EdgeTo) (i : ℕ) →
+    i < length es → kernel_edge (kind_of ty (get_or es i no_edge).kind.0) ≡ 1 →
     (left_factor ty sides c es i ≡ products (child_factor ty sides c es i) (left_factor ty sides c es (i + 1))) × (left_mass ty sides c es i ≡ child_mass ty sides c es i * left_mass ty sides c es (i + 1))
 left-kernel ty sides c es i lt is =
     let o = kind_of ty (get_or es i no_edge).kind.0 in
@@ -49,7 +51,8 @@ left-kernel ty sides c es i lt is =
       ap (above_mass ty sides) cut ∙ ap (λ (n : ℕ). n * left_mass ty sides c es (i + 1)) (kernel_is o (child_mass ty sides c es i) is),
     )
 
-pub left-other : (ty : Types) (sides : Sides) (c : Content) (es : List EdgeTo) (i : ℕ) → i < length es → kernel_edge (kind_of ty (get_or es i no_edge).kind.0) ≡ 0 →
+pub left-other : (ty : Types) (sides : Sides) (c : Content) (es : List EdgeTo) (i : ℕ) →
+    i < length es → kernel_edge (kind_of ty (get_or es i no_edge).kind.0) ≡ 0 →
     (left_factor ty sides c es i ≡ left_factor ty sides c es (i + 1)) × (left_mass ty sides c es i ≡ left_mass ty sides c es (i + 1))
 left-other ty sides c es i lt is =
     let o = kind_of ty (get_or es i no_edge).kind.0 in
@@ -78,7 +81,9 @@ above-after ty sides es e h =
     let first = kernel_mass (kind_of ty e.kind.0) (mass_of ty sides e.kind.0 e.child) in
     ((positive-factors first (above_mass ty sides (grafted [] es)) h).1, (at-most-product first (above_mass ty sides (grafted [] es)) h).1)
 
-pub left-within : (ty : Types) (sides : Sides) (c : Content) (es : List EdgeTo) (i : ℕ) → 0 < left_mass ty sides c es 0 → (0 < left_mass ty sides c es i) × (left_mass ty sides c es i ≤ left_mass ty sides c es 0)
+pub left-within : (ty : Types) (sides : Sides) (c : Content) (es : List EdgeTo) (i : ℕ) →
+    0 < left_mass ty sides c es 0 →
+    (0 < left_mass ty sides c es i) × (left_mass ty sides c es i ≤ left_mass ty sides c es 0)
 left-within ty sides c es zero h = (h, omega arith)
 left-within ty sides c [] (suc i) h = (h, omega arith)
 left-within ty sides c (e ∷ es) (suc i) h =
@@ -86,7 +91,8 @@ left-within ty sides c (e ∷ es) (suc i) h =
     let rest = left-within ty sides c es i after.0 in
     (rest.0, omega (arith, rest.1, after.1))
 
-above-root : (ty : Types) (sides : Sides) (n m : List ℕ) (es : List Labelled) → (above_mass ty sides (grafted n es) ≡ above_mass ty sides (grafted m es)) × (above_factor ty sides (grafted n es) ≡ above_factor ty sides (grafted m es))
+above-root : (ty : Types) (sides : Sides) (n m : List ℕ) (es : List Labelled) →
+    (above_mass ty sides (grafted n es) ≡ above_mass ty sides (grafted m es)) × (above_factor ty sides (grafted n es) ≡ above_factor ty sides (grafted m es))
 above-root ty sides n m [] = (refl, refl)
 above-root ty sides n m (e ∷ es) =
     let rest = above-root ty sides n m es in (
@@ -101,5 +107,7 @@ left-whole ty sides c i n es h =
     let is = sym (at_holds c i (tree_over c.trees n es) h) in
     (both.0 ∙ ap (above_mass ty sides) is, both.1 ∙ ap (above_factor ty sides) is)
 
-pub product-step : (p f a fs gs whole : List PlainTerm) → HaveSameCoefficients f fs → HaveSameCoefficients a gs → HaveSameCoefficients p (products f a) → whole ≡ products fs gs → HaveSameCoefficients p whole
+pub product-step : (p f a fs gs whole : List PlainTerm) → HaveSameCoefficients f fs →
+    HaveSameCoefficients a gs → HaveSameCoefficients p (products f a) → whole ≡ products fs gs →
+    HaveSameCoefficients p whole
 product-step p f a fs gs whole hf ha hp e = λ m. hp m ∙ products_same f fs a gs hf ha m ∙ ap (coefficient_of m) (sym e)

@@ -1,4 +1,5 @@
--- The steps of the total derivatives by a decoration: direction by direction, each as often as the decoration says, and like terms are collected after each.
+-- The steps of the total derivatives by a decoration: direction by direction, each as often as the
+-- decoration says, and like terms are collected after each.
 use Rattle.std.proofs.Common.{◌≡◌, ℕ, zero, suc, ◌+◌, ◌*◌, ◌^◌, ◌-◌, ◌<◌, ◌≤◌, ℤ, unsigned_abs, List, [], ◌∷◌, length, get_or, sum, refl, sym, ap, subst, ◌∙◌, arith}
 use Rattle.std.specs.List.{AllByRecursion}
 use Rattle.std.proofs.Math.Nat.{pow-zero, pow-suc}
@@ -74,17 +75,22 @@ weight-grows n (t ∷ ts) =
 pub next-fits : (d n : ℕ) (ts : List PlainTerm) → weight (suc n) ts < overflow → size_of (total_derivative d ts) < overflow
 next-fits d n ts h = omega (arith, weight-none (total_derivative d ts), weight-total d 0 ts, weight-grows n ts, h)
 
-pub next-weight : (d n : ℕ) (mass : ℤ) (ts us : List PlainTerm) → IsPolynomial mass us → HaveSameCoefficients us (total_derivative d ts) → weight n us ≤ weight (suc n) ts
+pub next-weight : (d n : ℕ) (mass : ℤ) (ts us : List PlainTerm) → IsPolynomial mass us →
+    HaveSameCoefficients us (total_derivative d ts) → weight n us ≤ weight (suc n) ts
 next-weight d n mass ts us p h = omega (arith, collected-weighed (λ m. variable_count m ^ n) mass us (total_derivative d ts) p h, weight-total d n ts)
 
-pub next-low : (b d : ℕ) (mass : ℤ) (ts us : List PlainTerm) → IsPolynomial mass us → HaveSameCoefficients us (total_derivative d ts) → AreLow b ts → AreLow (suc b) us
+pub next-low : (b d : ℕ) (mass : ℤ) (ts us : List PlainTerm) → IsPolynomial mass us →
+    HaveSameCoefficients us (total_derivative d ts) → AreLow b ts → AreLow (suc b) us
 next-low b d mass ts us p h l = collected-all (IsLowMonomial (suc b)) mass us (total_derivative d ts) p h (low-total b d ts l)
 
-pub next-same : (d k : ℕ) (ms : List ℕ) (ts us whole : List PlainTerm) → HaveSameCoefficients us (total_derivative d ts) → HaveSameCoefficients (total_derivatives d (suc k ∷ ms) ts) whole →
+pub next-same : (d k : ℕ) (ms : List ℕ) (ts us whole : List PlainTerm) →
+    HaveSameCoefficients us (total_derivative d ts) →
+    HaveSameCoefficients (total_derivatives d (suc k ∷ ms) ts) whole →
     HaveSameCoefficients (total_derivatives d (k ∷ ms) us) whole
 next-same d k ms ts us whole h w = λ m. totals-same d (k ∷ ms) us (total_derivative d ts) h m ∙ w m
 
--- where the total derivatives by n are on the way: from direction d on, ms is left of n, and ts are the terms that it acts on
+-- where the total derivatives by n are on the way: from direction d on, ms is left of n, and ts are
+-- the terms that it acts on
 pub record IsOnTheWay (n ms : List ℕ) (d : ℕ) (left ts : List PlainTerm) : Type 0 where
   pub few : count_in ms ≤ sum n
   pub low : AreLow (8 + (sum n - count_in ms)) ts
@@ -94,7 +100,9 @@ pub record IsOnTheWay (n ms : List ℕ) (d : ℕ) (left ts : List PlainTerm) : T
 abbrev pub AreDerived : List ℕ → ℕ → ℕ → List PlainTerm → List PlainTerm → Type 0
 AreDerived n d done left ts = IsOnTheWay n (rest_at d done n) d left ts
 
-way-next : (n ms : List ℕ) (d k : ℕ) (left ts us : List PlainTerm) (mass : ℤ) → IsPolynomial mass us → HaveSameCoefficients us (total_derivative d ts) → IsOnTheWay n (suc k ∷ ms) d left ts → IsOnTheWay n (k ∷ ms) d left us
+way-next : (n ms : List ℕ) (d k : ℕ) (left ts us : List PlainTerm) (mass : ℤ) →
+    IsPolynomial mass us → HaveSameCoefficients us (total_derivative d ts) →
+    IsOnTheWay n (suc k ∷ ms) d left ts → IsOnTheWay n (k ∷ ms) d left us
 way-next n ms d k left ts us mass p h w =
     let more : count_in (suc k ∷ ms) ≡ suc (count_in (k ∷ ms)) = omega arith in
     let heavier = ap (λ (x : ℕ). weight x ts) more in
@@ -131,21 +139,26 @@ derived-start n left l =
       same = λ m. refl;
     })
 
-pub derived-next : (n : List ℕ) (d done : ℕ) (left ts us : List PlainTerm) (mass : ℤ) → d < length n → done < get_or n d 0 → IsPolynomial mass us → HaveSameCoefficients us (total_derivative d ts) →
+pub derived-next : (n : List ℕ) (d done : ℕ) (left ts us : List PlainTerm) (mass : ℤ) →
+    d < length n → done < get_or n d 0 → IsPolynomial mass us →
+    HaveSameCoefficients us (total_derivative d ts) →
     AreDerived n d done left ts → AreDerived n d (done + 1) left us
 derived-next n d done left ts us mass h k p e w =
     let ms = rest_at (suc d) 0 n in
     subst (λ (rs : List ℕ). IsOnTheWay n rs d left us) (sym (rest-cut d (done + 1) n h))
     (way-next n ms d (get_or n d 0 - (done + 1)) left ts us mass p e (subst (λ (rs : List ℕ). IsOnTheWay n rs d left ts) (at-rest n d done h k) w))
 
-pub derived-turned : (n : List ℕ) (d done : ℕ) (left ts : List PlainTerm) → d < length n → get_or n d 0 ≤ done → AreDerived n d done left ts → AreDerived n (d + 1) 0 left ts
+pub derived-turned : (n : List ℕ) (d done : ℕ) (left ts : List PlainTerm) → d < length n →
+    get_or n d 0 ≤ done → AreDerived n d done left ts → AreDerived n (d + 1) 0 left ts
 derived-turned n d done left ts h k w =
     let ms = rest_at (suc d) 0 n in
     let none : get_or n d 0 - done ≡ 0 = omega (arith, k) in
     let cut = subst (λ (rs : List ℕ). IsOnTheWay n rs d left ts) (rest-cut d done n h) w in
     subst (λ (e : ℕ). AreDerived n e 0 left ts) (omega arith) (way-turned n ms d left ts (subst (λ (m : ℕ). IsOnTheWay n (m ∷ ms) d left ts) none cut))
 
-pub derived-fits : (n : List ℕ) (d done : ℕ) (left ts : List PlainTerm) → d < length n → done < get_or n d 0 → weight (sum n) left < overflow → AreDerived n d done left ts → size_of (total_derivative d ts) < overflow
+pub derived-fits : (n : List ℕ) (d done : ℕ) (left ts : List PlainTerm) → d < length n →
+    done < get_or n d 0 → weight (sum n) left < overflow → AreDerived n d done left ts →
+    size_of (total_derivative d ts) < overflow
 derived-fits n d done left ts h k f w =
     let rest = count_in ((get_or n d 0 - (done + 1)) ∷ rest_at (suc d) 0 n) in
     let is : count_in (rest_at d done n) ≡ suc rest = ap count_in (at-rest n d done h k) ∙ omega arith in

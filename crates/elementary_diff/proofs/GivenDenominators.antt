@@ -8,7 +8,8 @@ use Rattle.plain_trees.specs.Plain.{Plain}
 use Rattle.elementary_diff.specs.Differentials.{differential_mass, denominator_of}
 use Rattle.elementary_diff.specs.Refusals.{given_denominator}
 
-pub denominator-value : (r x y common q s n : ℕ) → r ≡ saturating_times x y → x ≡ saturated s → y ≡ saturated (common ^ n) → common ≡ saturated q → q < overflow → r ≡ saturated (s * q ^ n)
+pub denominator-value : (r x y common q s n : ℕ) → r ≡ saturating_times x y → x ≡ saturated s →
+    y ≡ saturated (common ^ n) → common ≡ saturated q → q < overflow → r ≡ saturated (s * q ^ n)
 denominator-value r x y common q s n h i j k fits =
     h ∙ ap (λ (z : ℕ). saturating_times z y) i ∙ ap (saturating_times (saturated s)) j
     ∙ ap (λ (z : ℕ). saturating_times (saturated s) (saturated (z ^ n))) (k ∙ saturated_in_range q fits) ∙ saturating_times_saturated s (q ^ n)

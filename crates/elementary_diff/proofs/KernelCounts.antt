@@ -27,7 +27,8 @@ kernels-root ty n m (e ∷ es) = ap (λ (x : ℕ). kernel_edge (kind_of ty e.kin
 abbrev pub kernels_left : Types → Content → List EdgeTo → ℕ → ℕ
 kernels_left ty c es i = kernel_edges ty (tree_over c.trees [] (drop i es))
 
-pub kernels-whole : (ty : Types) (c : Content) (i : ℕ) (n : List ℕ) (es : List EdgeTo) → Holds c i (tree_over c.trees n es) → kernels_left ty c es 0 ≡ kernel_edges ty (tree_at c i)
+pub kernels-whole : (ty : Types) (c : Content) (i : ℕ) (n : List ℕ) (es : List EdgeTo) →
+    Holds c i (tree_over c.trees n es) → kernels_left ty c es 0 ≡ kernel_edges ty (tree_at c i)
 kernels-whole ty c i n es h = kernels-root ty [] n (map (edge_over c.trees) es) ∙ sym (ap (kernel_edges ty) (at_holds c i (tree_over c.trees n es) h))
 
 pub kernels-cut : (ty : Types) (c : Content) (es : List EdgeTo) (i : ℕ) → i < length es →

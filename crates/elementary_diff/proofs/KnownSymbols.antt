@@ -94,7 +94,8 @@ module _ (ty : Types) (ps : List (List ℕ)) where
   known-factors [] h = tt
   known-factors (f ∷ fs) h = known-with (factor_symbol ty f) (monomial_product (map (factor_symbol ty) fs) []) (known-factor f (All-head (IsFactor ty) f fs h)) (known-factors fs (All-tail (IsFactor ty) f fs h))
 
-  known-parameters : (qs : List ℕ) (m : List PlainSymbol) → All (λ p. p < length ps) qs → AllByRecursion Known m → AllByRecursion Known (monomial_product (map parameter qs) m)
+  known-parameters : (qs : List ℕ) (m : List PlainSymbol) → All (λ p. p < length ps) qs →
+      AllByRecursion Known m → AllByRecursion Known (monomial_product (map parameter qs) m)
   known-parameters [] m h a = a
   known-parameters (q ∷ qs) m h a =
       known-with (parameter q) (monomial_product (map parameter qs) m) (All-head (λ p. p < length ps) q qs h) (known-parameters qs m (All-tail (λ p. p < length ps) q qs h) a)
@@ -145,7 +146,8 @@ module _ (ty : Types) (ps : List (List ℕ)) where
   known-append [] us h k = k
   known-append (t ∷ ts) us h k = (h.0, known-append ts us h.1 k)
 
-  known-own : (d : ℕ) (s : PlainSymbol) (m : List PlainSymbol) → d < ty.dims → Known s → AllByRecursion Known m → AllKnown (map (λ r. with_symbol r m) (further_symbol d s))
+  known-own : (d : ℕ) (s : PlainSymbol) (m : List PlainSymbol) → d < ty.dims → Known s →
+      AllByRecursion Known m → AllKnown (map (λ r. with_symbol r m) (further_symbol d s))
   known-own d (parameter i) m lt h a = tt
   known-own d (variable k p) m lt h a = (known-with (variable k (one_more d p)) m (h.0, more-within d ty.dims p lt h.1) a, tt)
   known-own d (noise k) m lt h a = tt
@@ -180,7 +182,9 @@ module _ (ty : Types) (ps : List (List ℕ)) where
     | inr above ↦ subst (λ (x : ℕ). AreKnown ty ps (repeated x (total_derivative d) ts)) (sym (z above)) h
   ]
 
-  known-totals : (d : ℕ) (ms : List ℕ) (ts : List PlainTerm) → ((i : ℕ) → ty.dims ≤ d + i → slice_index ms i ≡ 0) → AreKnown ty ps ts → AreKnown ty ps (total_derivatives d ms ts)
+  known-totals : (d : ℕ) (ms : List ℕ) (ts : List PlainTerm) →
+      ((i : ℕ) → ty.dims ≤ d + i → slice_index ms i ≡ 0) → AreKnown ty ps ts →
+      AreKnown ty ps (total_derivatives d ms ts)
   known-totals d [] ts z h = h
   known-totals d (n ∷ ms) ts z h =
       known-totals (suc d) ms (repeated n (total_derivative d) ts) (λ i le. z (suc i) (omega (arith, le))) (known-times n d ts (λ le. z 0 (omega (arith, le))) h)
@@ -211,7 +215,8 @@ module _ (ty : Types) (ps : List (List ℕ)) where
       (known-kernel (kind_of ty k) whole (known-products (root_factor ty (sides k) c) (above_factor ty sides c) (known-root (sides k) c types.1 (h k)) (known-above sides c h types.1)))
       (known-above sides t h types.2)
 
-  known-differential : (sides : Sides) (k : ℕ) (t : Plain) → ((k : ℕ) → AreKnown ty ps (sides k)) → HasTypes ty t → AreKnown ty ps (differential_of ty sides k t)
+  known-differential : (sides : Sides) (k : ℕ) (t : Plain) → ((k : ℕ) → AreKnown ty ps (sides k)) →
+      HasTypes ty t → AreKnown ty ps (differential_of ty sides k t)
   known-differential sides k t h types = known-products (root_factor ty (sides k) t) (above_factor ty sides t) (known-root (sides k) t types (h k)) (known-above sides t h types)
 
   -- from terms to their monomials and back
@@ -230,7 +235,9 @@ pub known-sides : (eq : Equation) (k : ℕ) → IsEquation eq → AreKnown eq.ty
 known-sides eq k h = known-side eq.types eq.parameters k eq.unknowns h.unknowns
 
 -- the symbols of a polynomial that is an elementary differential
-pub known-poly : (eq : Equation) (k : ℕ) (t : Plain) (mass : ℤ) (ts : List PlainTerm) → IsEquation eq → HasTypes eq.types t → IsPolynomial mass ts → HaveSameCoefficients ts (differential_terms eq k t) →
+pub known-poly : (eq : Equation) (k : ℕ) (t : Plain) (mass : ℤ) (ts : List PlainTerm) →
+    IsEquation eq → HasTypes eq.types t → IsPolynomial mass ts →
+    HaveSameCoefficients ts (differential_terms eq k t) →
     AreKnown eq.types eq.parameters ts
 known-poly eq k t mass ts h types p same =
     collected-known eq.types eq.parameters mass ts (differential_terms eq k t) p same (known-differential eq.types eq.parameters (right_terms eq) k t (λ i. known-sides eq i h) types)
@@ -243,30 +250,39 @@ over-symbol ty ps (noise k) h five = h
 over-symbol ty ps (tree t) h five = absurd h
 over-symbol ty ps (expectation t) h five = absurd h
 
-over-symbols : (ty : Types) (ps : List (List ℕ)) (m : List PlainSymbol) → AllByRecursion (IsKnown ty ps) m → AllByRecursion IsFiveLong m → AllByRecursion (IsOver ty ps) m
+over-symbols : (ty : Types) (ps : List (List ℕ)) (m : List PlainSymbol) →
+    AllByRecursion (IsKnown ty ps) m → AllByRecursion IsFiveLong m → AllByRecursion (IsOver ty ps) m
 over-symbols ty ps [] h five = tt
 over-symbols ty ps (s ∷ m) h five = (over-symbol ty ps s h.0 five.0, over-symbols ty ps m h.1 five.1)
 
-over-terms : (ty : Types) (ps : List (List ℕ)) (ts : List PlainTerm) → AreKnown ty ps ts → AreFiveLong ts → AllByRecursion IsMonomial (monomials ts) → AllByRecursion (IsTermOver ty ps) ts
+over-terms : (ty : Types) (ps : List (List ℕ)) (ts : List PlainTerm) → AreKnown ty ps ts →
+    AreFiveLong ts → AllByRecursion IsMonomial (monomials ts) → AllByRecursion (IsTermOver ty ps) ts
 over-terms ty ps [] h five each = tt
 over-terms ty ps (t ∷ ts) h five each = (record { over = over-symbols ty ps t.symbols h.0 five.0; trees = each.0.trees }, over-terms ty ps ts h.1 five.1 each.1)
 
-pub over-poly : (eq : Equation) (c : Content) (k i : ℕ) (t : Plain) (mass : ℤ) (ts : List PlainTerm) → IsEquation eq → c.types ≡ eq.types → Holds c i t → IsKept c.types t → IsPolynomial mass ts →
+pub over-poly : (eq : Equation) (c : Content) (k i : ℕ) (t : Plain) (mass : ℤ) (ts : List PlainTerm) →
+    IsEquation eq → c.types ≡ eq.types → Holds c i t → IsKept c.types t → IsPolynomial mass ts →
     HaveSameCoefficients ts (differential_terms eq k (tree_at c i)) → AreFiveLong ts → AllByRecursion (IsTermOver eq.types eq.parameters) ts
 over-poly eq c k i t mass ts h e holds kept p same five =
     let types : HasTypes eq.types (tree_at c i) = rw (at_holds c i t holds) (subst (λ (ty : Types). HasTypes ty t) e kept.known) in
     over-terms eq.types eq.parameters ts (known-poly eq k (tree_at c i) mass ts h types p same) five p.each
 
-pub symbols-step : (ss : List Symbol) (i : ℕ) (s : Symbol) → i < length ss → s ≡ get_or ss i s → IsFiveLong (symbol_of s) → (AllByRecursion IsFiveLong (map symbol_of (drop i ss)) → AllByRecursion IsFiveLong (map symbol_of ss)) →
+pub symbols-step : (ss : List Symbol) (i : ℕ) (s : Symbol) → i < length ss → s ≡ get_or ss i s →
+    IsFiveLong (symbol_of s) →
+    (AllByRecursion IsFiveLong (map symbol_of (drop i ss)) → AllByRecursion IsFiveLong (map symbol_of ss)) →
     AllByRecursion IsFiveLong (map symbol_of (drop (i + 1) ss)) → AllByRecursion IsFiveLong (map symbol_of ss)
 symbols-step ss i s lt e five h rest =
     let cut : drop i ss ≡ s ∷ drop (i + 1) ss = grind (arith, common_steps) in
     h (rw cut (five, rest))
 
-pub symbols-end : (ss : List Symbol) (i : ℕ) → length ss ≤ i → (AllByRecursion IsFiveLong (map symbol_of (drop i ss)) → AllByRecursion IsFiveLong (map symbol_of ss)) → AllByRecursion IsFiveLong (map symbol_of ss)
+pub symbols-end : (ss : List Symbol) (i : ℕ) → length ss ≤ i →
+    (AllByRecursion IsFiveLong (map symbol_of (drop i ss)) → AllByRecursion IsFiveLong (map symbol_of ss)) →
+    AllByRecursion IsFiveLong (map symbol_of ss)
 symbols-end ss i end h = h (rw (drop_all i ss end) tt)
 
-pub terms-step : (ts : List Term) (i : ℕ) (t : Term) → i < length ts → t ≡ get_or ts i t → AllByRecursion IsFiveLong (map symbol_of t.symbols) → (AreFiveLong (terms_of (drop i ts)) → AreFiveLong (terms_of ts)) →
+pub terms-step : (ts : List Term) (i : ℕ) (t : Term) → i < length ts → t ≡ get_or ts i t →
+    AllByRecursion IsFiveLong (map symbol_of t.symbols) →
+    (AreFiveLong (terms_of (drop i ts)) → AreFiveLong (terms_of ts)) →
     AreFiveLong (terms_of (drop (i + 1) ts)) → AreFiveLong (terms_of ts)
 terms-step ts i t lt e five h rest =
     let cut : drop i ts ≡ t ∷ drop (i + 1) ts = grind (arith, common_steps) in

@@ -1,4 +1,5 @@
--- The entries in the terms of a right side are low, and so are those of what the edges of a root leave of it.
+-- The entries in the terms of a right side are low, and so are those of what the edges of a root
+-- leave of it.
 use Rattle.std.proofs.Common.{ℕ, ◌≤◌, ◌==◌, true, false, Bool, cond, not, List, [], ◌∷◌, length, map, Some, None, Option}
 use Rattle.std.specs.List.{All, AllByRecursion, list_any}
 use Rattle.std.specs.Ordering.{is_eq}

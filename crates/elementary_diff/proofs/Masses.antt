@@ -91,7 +91,8 @@ all-weights c n k (m ∷ ms) h =
     let more : suc (length ms) * (c * k ^ n) ≡ c * k ^ n + length ms * (c * k ^ n) = grind arith in
     omega (arith, first, rest, more)
 
-weight-term : (d n : ℕ) (t : PlainTerm) → total (λ m. unsigned_abs t.coefficient * variable_count m ^ n) (further d t.symbols) ≡ unsigned_abs t.coefficient * variable_count t.symbols ^ suc n
+weight-term : (d n : ℕ) (t : PlainTerm) →
+    total (λ m. unsigned_abs t.coefficient * variable_count m ^ n) (further d t.symbols) ≡ unsigned_abs t.coefficient * variable_count t.symbols ^ suc n
 weight-term d n t =
     let c = unsigned_abs t.coefficient in
     let k = variable_count t.symbols in
@@ -164,7 +165,8 @@ derivative-absolute s (t ∷ ts) =
     positive : (m n : ℕ) → pos m *ℤ pos n ≡ pos (m * n)
     positive m n = refl
 
-edge-absolute-by : (o : Option Kind) (k : ℕ) (p : List ℕ) (ts : List PlainTerm) → edge_derivatives_by o k p (absolute_terms ts) ≡ absolute_terms (edge_derivatives_by o k p ts)
+edge-absolute-by : (o : Option Kind) (k : ℕ) (p : List ℕ) (ts : List PlainTerm) →
+    edge_derivatives_by o k p (absolute_terms ts) ≡ absolute_terms (edge_derivatives_by o k p ts)
 edge-absolute-by None k p ts = refl
 edge-absolute-by (Some Noise) k p ts = at (is_zero p)
   where

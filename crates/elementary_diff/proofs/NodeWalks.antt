@@ -1,4 +1,5 @@
--- Walks over the edges of a node of a pool: what the edges that are left make of terms and of masses.
+-- Walks over the edges of a node of a pool: what the edges that are left make of terms and of
+-- masses.
 use Rattle.std.proofs.Common.{◌≡◌, ℕ, ◌+◌, ◌*◌, ◌^◌, ◌<◌, ◌≤◌, List, [], ◌∷◌, drop, length, map, sum, get_or, refl, sym, ap, ◌∙◌, arith, Some, None, Option}
 use Rattle.exact_sums.specs.Saturating.{overflow, saturated, saturating_times}
 use Rattle.exact_sums.proofs.SaturatingLaws.{saturated_mul_left, saturated_mul_right}
@@ -32,7 +33,8 @@ pub edges-step : (ty : Types) (c : Content) (es : List EdgeTo) (i : ℕ) (ts us 
     by_edges ty (tree_over c.trees [] (drop (i + 1) es)) us ≡ whole
 edges-step ty c es i ts us whole h e k = ap (by_edges ty (tree_over c.trees [] (drop (i + 1) es))) e ∙ rw (tree_cut c [] es i no_edge h) at k
 
-pub edges-end : (ty : Types) (c : Content) (es : List EdgeTo) (i : ℕ) (ts whole : List PlainTerm) → length es ≤ i → by_edges ty (tree_over c.trees [] (drop i es)) ts ≡ whole → ts ≡ whole
+pub edges-end : (ty : Types) (c : Content) (es : List EdgeTo) (i : ℕ) (ts whole : List PlainTerm) →
+    length es ≤ i → by_edges ty (tree_over c.trees [] (drop i es)) ts ≡ whole → ts ≡ whole
 edges-end ty c es i ts whole h k = rw (tree_end c [] es i h) at k
 
 -- the masses above the edges
@@ -41,7 +43,8 @@ above-root ty sides n m [] = refl
 above-root ty sides n m (e ∷ es) =
     ap (λ (x : ℕ). kernel_mass (kind_of ty e.kind.0) (root_mass ty (sides e.kind.0) e.child * above_mass ty sides e.child) * x) (above-root ty sides n m es)
 
-pub masses-whole : (ty : Types) (sides : Sides) (k : ℕ) (c : Content) (i : ℕ) (n : List ℕ) (es : List EdgeTo) (p : ℕ) → Holds c i (tree_over c.trees n es) → p ≡ saturated (root_mass ty (sides k) (tree_at c i)) →
+pub masses-whole : (ty : Types) (sides : Sides) (k : ℕ) (c : Content) (i : ℕ) (n : List ℕ) (es : List EdgeTo) (p : ℕ) →
+    Holds c i (tree_over c.trees n es) → p ≡ saturated (root_mass ty (sides k) (tree_at c i)) →
     saturated (p * above_mass ty sides (tree_over c.trees [] es)) ≡ saturated (mass_of ty sides k (tree_at c i))
 masses-whole ty sides k c i n es p h e =
     let above : above_mass ty sides (tree_over c.trees [] es) ≡ above_mass ty sides (tree_at c i) =
@@ -69,7 +72,8 @@ times_step p q m r w e h =
     back : (p m r : ℕ) → p * r * m ≡ p * (m * r)
     back p m r = grind arith
 
-pub masses-kernel : (ty : Types) (sides : Sides) (c : Content) (es : List EdgeTo) (i p q m whole : ℕ) → i < length es → kernel_edge (kind_of ty (get_or es i no_edge).kind.0) ≡ 1 →
+pub masses-kernel : (ty : Types) (sides : Sides) (c : Content) (es : List EdgeTo) (i p q m whole : ℕ) →
+    i < length es → kernel_edge (kind_of ty (get_or es i no_edge).kind.0) ≡ 1 →
     m ≡ saturated (mass_of ty sides (get_or es i no_edge).kind.0 (tree_at c (get_or es i no_edge).child.0)) → q ≡ saturating_times p m →
     saturated (p * above_mass ty sides (tree_over c.trees [] (drop i es))) ≡ saturated whole → saturated (q * above_mass ty sides (tree_over c.trees [] (drop (i + 1) es))) ≡ saturated whole
 masses-kernel ty sides c es i p q m whole lt is e f h =
@@ -79,7 +83,8 @@ masses-kernel ty sides c es i p q m whole lt is e f h =
     let cut = rw (tree_cut c [] es i no_edge lt) at h in
     times_step p q child rest (saturated whole) (f ∙ ap (saturating_times p) e) (ap (λ (x : ℕ). saturated (p * (x * rest))) (sym (kernel_is (kind_of ty k) child is)) ∙ cut)
 
-pub masses-other : (ty : Types) (sides : Sides) (c : Content) (es : List EdgeTo) (i p whole : ℕ) → i < length es → kernel_edge (kind_of ty (get_or es i no_edge).kind.0) ≡ 0 →
+pub masses-other : (ty : Types) (sides : Sides) (c : Content) (es : List EdgeTo) (i p whole : ℕ) →
+    i < length es → kernel_edge (kind_of ty (get_or es i no_edge).kind.0) ≡ 0 →
     saturated (p * above_mass ty sides (tree_over c.trees [] (drop i es))) ≡ saturated whole → saturated (p * above_mass ty sides (tree_over c.trees [] (drop (i + 1) es))) ≡ saturated whole
 masses-other ty sides c es i p whole lt is h =
     let k = (get_or es i no_edge).kind.0 in
@@ -91,7 +96,10 @@ masses-other ty sides c es i p whole lt is h =
     single : (r : ℕ) → r ≡ 1 * r
     single r = omega arith
 
-pub masses-end : (ty : Types) (sides : Sides) (c : Content) (es : List EdgeTo) (i p whole : ℕ) → length es ≤ i → p ≤ overflow → saturated (p * above_mass ty sides (tree_over c.trees [] (drop i es))) ≡ saturated whole → p ≡ saturated whole
+pub masses-end : (ty : Types) (sides : Sides) (c : Content) (es : List EdgeTo) (i p whole : ℕ) →
+    length es ≤ i → p ≤ overflow →
+    saturated (p * above_mass ty sides (tree_over c.trees [] (drop i es))) ≡ saturated whole →
+    p ≡ saturated whole
 masses-end ty sides c es i p whole end within h =
     let cut = rw (tree_end c [] es i end) at h in
     in_range p (saturated whole) within cut

@@ -34,7 +34,8 @@ product-masses f a fs gs m n hf ha =
 at_most : (x y : ℕ) (z : ℤ) → z ≡ pos x → x ≤ y → z ≤ℤ pos y
 at_most x y z h k = omega (arith, ints, h, k)
 
-pub product-within : (f a p : Poly) (fs gs whole : List PlainTerm) (m n w : ℕ) → IsSumWithin fs m f → IsSumWithin gs n a → whole ≡ products fs gs → w ≡ m * n → IsPoly p →
+pub product-within : (f a p : Poly) (fs gs whole : List PlainTerm) (m n w : ℕ) →
+    IsSumWithin fs m f → IsSumWithin gs n a → whole ≡ products fs gs → w ≡ m * n → IsPoly p →
     HaveSameCoefficients (terms_of p.terms) (products (terms_of f.terms) (terms_of a.terms)) → p.mass ≡ pos (unsigned_abs f.mass * unsigned_abs a.mass) → IsSumWithin whole w p
 product-within f a p fs gs whole m n w hf ha e k poly same mass = rw (e, k) (
     record {
@@ -50,7 +51,8 @@ memory_alone past CoefficientTooLarge never h = absurd (never h)
 memory_alone past PolyText never h = absurd h
 memory_alone past Memory never h = refl
 
-pub product-fits : (f a : Poly) (fs gs : List PlainTerm) (m n : ℕ) → IsSumWithin fs m f → IsSumWithin gs n a → m * n < overflow → overflow ≤ unsigned_abs f.mass * unsigned_abs a.mass → ⊥
+pub product-fits : (f a : Poly) (fs gs : List PlainTerm) (m n : ℕ) → IsSumWithin fs m f →
+    IsSumWithin gs n a → m * n < overflow → overflow ≤ unsigned_abs f.mass * unsigned_abs a.mass → ⊥
 product-fits f a fs gs m n hf ha fits past = absurd (omega (arith, product-masses f a fs gs m n hf ha, fits, past))
 
 -- no factor of a mass that is not 0 is more than it
@@ -59,7 +61,8 @@ pub record HasMassAt (ty : Types) (sides : Sides) (c : Content) (es : List EdgeT
   pub fits : child_mass ty sides c es i < overflow
   pub left : child_mass ty sides c es i * left_mass ty sides c es (i + 1) < overflow
 
-pub mass-at : (ty : Types) (sides : Sides) (k : ℕ) (c : Content) (id : ℕ) (n : List ℕ) (es : List EdgeTo) (i : ℕ) → Holds c id (tree_over c.trees n es) → 0 < mass_of ty sides k (tree_at c id) →
+pub mass-at : (ty : Types) (sides : Sides) (k : ℕ) (c : Content) (id : ℕ) (n : List ℕ) (es : List EdgeTo) (i : ℕ) →
+    Holds c id (tree_over c.trees n es) → 0 < mass_of ty sides k (tree_at c id) →
     mass_of ty sides k (tree_at c id) < overflow → i < length es → kernel_edge (kind_of ty (get_or es i no_edge).kind.0) ≡ 1 → HasMassAt ty sides c es i
 mass-at ty sides k c id n es i holds some fits lt is =
     let root = root_mass ty (sides k) (tree_at c id) in
@@ -80,7 +83,8 @@ mass-at ty sides k c id n es i holds some fits lt is =
       left = omega (arith, cut, left.1, whole, most, fits);
     }
 
-pub memory_at : (ty : Types) (sides : Sides) (c : Content) (es : List EdgeTo) (l : ℕ) (f above : Poly) (e : PolyError) → 0 < l → HasMassAt ty sides c es (l - 1) →
+pub memory_at : (ty : Types) (sides : Sides) (c : Content) (es : List EdgeTo) (l : ℕ) (f above : Poly) (e : PolyError) →
+    0 < l → HasMassAt ty sides c es (l - 1) →
     IsSumWithin (child_factor ty sides c es (l - 1)) (child_mass ty sides c es (l - 1)) f → IsSumWithin (left_factor ty sides c es l) (left_mass ty sides c es l) above →
     IsRefused (overflow ≤ unsigned_abs f.mass * unsigned_abs above.mass) e → e ≡ Memory
 memory_at ty sides c es l f above e some mass hf ha =
@@ -93,13 +97,15 @@ pub root-within : (root above : ℕ) → 0 < root * above → root * above < ove
 root-within root above some fits = omega (arith, (at-most-product root above some).0, fits)
 
 -- the walk from the last edge, where l edges are left
-pub product-none : (ty : Types) (sides : Sides) (c : Content) (es : List EdgeTo) (l : ℕ) (p : Poly) → length es ≤ l → IsPoly p → terms_of p.terms ≡ one_term → p.mass ≡ pos 1 →
+pub product-none : (ty : Types) (sides : Sides) (c : Content) (es : List EdgeTo) (l : ℕ) (p : Poly) →
+    length es ≤ l → IsPoly p → terms_of p.terms ≡ one_term → p.mass ≡ pos 1 →
     IsSumWithin (left_factor ty sides c es l) (left_mass ty sides c es l) p
 product-none ty sides c es l p end poly terms mass = rw (tree_end c [] es l end) (
     record { poly = poly; coefficients = λ m. ap (coefficient_of m) terms; mass = at_most 1 1 p.mass mass (omega arith) }
     )
 
-pub product-kernel : (ty : Types) (sides : Sides) (c : Content) (es : List EdgeTo) (l : ℕ) (f above p : Poly) → 0 < l → l ≤ length es → kernel_edge (kind_of ty (get_or es (l - 1) no_edge).kind.0) ≡ 1 →
+pub product-kernel : (ty : Types) (sides : Sides) (c : Content) (es : List EdgeTo) (l : ℕ) (f above p : Poly) →
+    0 < l → l ≤ length es → kernel_edge (kind_of ty (get_or es (l - 1) no_edge).kind.0) ≡ 1 →
     IsSumWithin (child_factor ty sides c es (l - 1)) (child_mass ty sides c es (l - 1)) f → IsSumWithin (left_factor ty sides c es l) (left_mass ty sides c es l) above → IsPoly p →
     HaveSameCoefficients (terms_of p.terms) (products (terms_of f.terms) (terms_of above.terms)) → p.mass ≡ pos (unsigned_abs f.mass * unsigned_abs above.mass) →
     IsSumWithin (left_factor ty sides c es (l - 1)) (left_mass ty sides c es (l - 1)) p
@@ -111,7 +117,8 @@ product-kernel ty sides c es l f above p some within is hf ha poly same mass =
     product-within f above p fs (left_factor ty sides c es l) (left_factor ty sides c es (l - 1)) m (left_mass ty sides c es l) (left_mass ty sides c es (l - 1)) hf ha
     (cut.0 ∙ ap (λ (i : ℕ). products fs (left_factor ty sides c es i)) back) (cut.1 ∙ ap (λ (i : ℕ). m * left_mass ty sides c es i) back) poly same mass
 
-pub product-other : (ty : Types) (sides : Sides) (c : Content) (es : List EdgeTo) (l : ℕ) (above : Poly) → 0 < l → l ≤ length es → kernel_edge (kind_of ty (get_or es (l - 1) no_edge).kind.0) ≡ 0 →
+pub product-other : (ty : Types) (sides : Sides) (c : Content) (es : List EdgeTo) (l : ℕ) (above : Poly) →
+    0 < l → l ≤ length es → kernel_edge (kind_of ty (get_or es (l - 1) no_edge).kind.0) ≡ 0 →
     IsSumWithin (left_factor ty sides c es l) (left_mass ty sides c es l) above → IsSumWithin (left_factor ty sides c es (l - 1)) (left_mass ty sides c es (l - 1)) above
 product-other ty sides c es l above some within is h =
     let back : l - 1 + 1 ≡ l = omega (arith, some) in
@@ -119,12 +126,15 @@ product-other ty sides c es l above some within is h =
     subst (λ (ts : List PlainTerm). IsSumWithin ts (left_mass ty sides c es (l - 1)) above) (sym (same.0 ∙ ap (left_factor ty sides c es) back))
     (subst (λ (n : ℕ). IsSumWithin (left_factor ty sides c es l) n above) (sym (same.1 ∙ ap (left_mass ty sides c es) back)) h)
 
-pub product-skipped : (ty : Types) (sides : Sides) (c : Content) (es : List EdgeTo) (i : ℕ) (f : Poly) → kernel_edge (kind_of ty (get_or es i no_edge).kind.0) ≡ 0 → i < length es →
+pub product-skipped : (ty : Types) (sides : Sides) (c : Content) (es : List EdgeTo) (i : ℕ) (f : Poly) →
+    kernel_edge (kind_of ty (get_or es i no_edge).kind.0) ≡ 0 → i < length es →
     kernel_edge (kind_of ty (get_or es i no_edge).kind.0) ≡ 1 → IsSumWithin (child_factor ty sides c es i) (child_mass ty sides c es i) f
 product-skipped ty sides c es i f other lt is = absurd (omega (arith, other, is))
 
 -- the polynomial above an edge is that above the next edge, where the edges are alike
-pub product-repeated : (ty : Types) (sides : Sides) (c : Content) (es : List EdgeTo) (l : ℕ) (f : Poly) → 0 < l → IsRepeated es (l - 1) → kernel_edge (kind_of ty (get_or es (l - 1) no_edge).kind.0) ≡ 1 →
+pub product-repeated : (ty : Types) (sides : Sides) (c : Content) (es : List EdgeTo) (l : ℕ) (f : Poly) →
+    0 < l → IsRepeated es (l - 1) →
+    kernel_edge (kind_of ty (get_or es (l - 1) no_edge).kind.0) ≡ 1 →
     (l < length es → kernel_edge (kind_of ty (get_or es l no_edge).kind.0) ≡ 1 → IsSumWithin (child_factor ty sides c es l) (child_mass ty sides c es l) f) →
     IsSumWithin (child_factor ty sides c es (l - 1)) (child_mass ty sides c es (l - 1)) f
 product-repeated ty sides c es l f some r is h =
@@ -138,7 +148,8 @@ product-repeated ty sides c es l f some r is h =
     (subst (λ (k : TypeId). IsSumWithin (differential_of ty sides k.0 (tree_at c next.child.0)) (mass_of ty sides k.0 (tree_at c next.child.0)) f) kind (h (omega (arith, r.there, back)) kernel))
 
 -- the whole product
-pub product-whole : (ty : Types) (sides : Sides) (k : ℕ) (c : Content) (id : ℕ) (n : List ℕ) (es : List EdgeTo) (root above p : Poly) → Holds c id (tree_over c.trees n es) →
+pub product-whole : (ty : Types) (sides : Sides) (k : ℕ) (c : Content) (id : ℕ) (n : List ℕ) (es : List EdgeTo) (root above p : Poly) →
+    Holds c id (tree_over c.trees n es) →
     IsSumWithin (root_factor ty (sides k) (tree_at c id)) (root_mass ty (sides k) (tree_at c id)) root → IsSumWithin (left_factor ty sides c es 0) (left_mass ty sides c es 0) above → IsPoly p →
     HaveSameCoefficients (terms_of p.terms) (products (terms_of root.terms) (terms_of above.terms)) → p.mass ≡ pos (unsigned_abs root.mass * unsigned_abs above.mass) →
     IsSumWithin (differential_of ty sides k (tree_at c id)) (mass_of ty sides k (tree_at c id)) p
@@ -149,7 +160,8 @@ product-whole ty sides k c id n es root above p holds hr ha poly same mass =
     product-within root above p first (left_factor ty sides c es 0) (differential_of ty sides k (tree_at c id)) m (left_mass ty sides c es 0) (mass_of ty sides k (tree_at c id)) hr ha
     (ap (products first) (sym whole.1)) (ap (λ (x : ℕ). m * x) (sym whole.0)) poly same mass
 
-pub memory_whole : (ty : Types) (sides : Sides) (k : ℕ) (c : Content) (id : ℕ) (n : List ℕ) (es : List EdgeTo) (root above : Poly) (e : PolyError) → Holds c id (tree_over c.trees n es) →
+pub memory_whole : (ty : Types) (sides : Sides) (k : ℕ) (c : Content) (id : ℕ) (n : List ℕ) (es : List EdgeTo) (root above : Poly) (e : PolyError) →
+    Holds c id (tree_over c.trees n es) →
     IsSumWithin (root_factor ty (sides k) (tree_at c id)) (root_mass ty (sides k) (tree_at c id)) root → IsSumWithin (left_factor ty sides c es 0) (left_mass ty sides c es 0) above →
     mass_of ty sides k (tree_at c id) < overflow → IsRefused (overflow ≤ unsigned_abs root.mass * unsigned_abs above.mass) e → e ≡ Memory
 memory_whole ty sides k c id n es root above e holds hr ha fits =
@@ -159,14 +171,16 @@ memory_whole ty sides k c id n es root above e holds hr ha fits =
     (product-fits root above (root_factor ty (sides k) (tree_at c id)) (left_factor ty sides c es 0) m (left_mass ty sides c es 0) hr ha within)
 
 -- the last product as the answer of a call
-pub answer_whole : (ty : Types) (sides : Sides) (k : ℕ) (c : Content) (id : ℕ) (n : List ℕ) (es : List EdgeTo) (root above : Poly) (r : Result Poly PolyError) → Holds c id (tree_over c.trees n es) →
+pub answer_whole : (ty : Types) (sides : Sides) (k : ℕ) (c : Content) (id : ℕ) (n : List ℕ) (es : List EdgeTo) (root above : Poly) (r : Result Poly PolyError) →
+    Holds c id (tree_over c.trees n es) →
     IsSumWithin (root_factor ty (sides k) (tree_at c id)) (root_mass ty (sides k) (tree_at c id)) root → IsSumWithin (left_factor ty sides c es 0) (left_mass ty sides c es 0) above → IfOk r IsPoly →
     IfOk r (λ p. HaveSameCoefficients (terms_of p.terms) (products (terms_of root.terms) (terms_of above.terms))) → IfOk r (λ p. p.mass ≡ pos (unsigned_abs root.mass * unsigned_abs above.mass)) →
     IfOk r (IsSumWithin (differential_of ty sides k (tree_at c id)) (mass_of ty sides k (tree_at c id)))
 answer_whole ty sides k c id n es root above (Ok p) holds hr ha poly same mass = product-whole ty sides k c id n es root above p holds hr ha poly same mass
 answer_whole ty sides k c id n es root above (Err e) holds hr ha poly same mass = tt
 
-pub memory_answer : (ty : Types) (sides : Sides) (k : ℕ) (c : Content) (id : ℕ) (n : List ℕ) (es : List EdgeTo) (root above : Poly) (r : Result Poly PolyError) → Holds c id (tree_over c.trees n es) →
+pub memory_answer : (ty : Types) (sides : Sides) (k : ℕ) (c : Content) (id : ℕ) (n : List ℕ) (es : List EdgeTo) (root above : Poly) (r : Result Poly PolyError) →
+    Holds c id (tree_over c.trees n es) →
     IsSumWithin (root_factor ty (sides k) (tree_at c id)) (root_mass ty (sides k) (tree_at c id)) root → IsSumWithin (left_factor ty sides c es 0) (left_mass ty sides c es 0) above →
     mass_of ty sides k (tree_at c id) < overflow → IfErr r (IsRefused (overflow ≤ unsigned_abs root.mass * unsigned_abs above.mass)) → IsOkUnless r Memory
 memory_answer ty sides k c id n es root above (Ok p) holds hr ha fits refused = tt

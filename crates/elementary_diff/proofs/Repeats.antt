@@ -1,4 +1,5 @@
--- The edges of a node of a pool: how often one stands among them, and the symmetry factor of those that are left.
+-- The edges of a node of a pool: how often one stands among them, and the symmetry factor of those
+-- that are left.
 use Rattle.std.proofs.Common.{◌≡◌, ℕ, zero, suc, ◌+◌, ◌*◌, ◌-◌, ◌<◌, ◌≤◌, Bool, true, false, cond, List, [], ◌∷◌, map, filter, take, drop, length, get_or, refl, sym, ap, subst, ◌∙◌, arith, Ordering, Less, Equal, Greater}
 use Rattle.std.specs.Ordering.{is_eq}
 use Rattle.std.specs.Bool.{Decides}
@@ -22,7 +23,8 @@ use Rattle.elementary_diff.proofs.SymmetryLaws.{symmetry-bare, symmetry-graft, s
 abbrev planted_at : Content → EdgeTo → Planted
 planted_at c e = root_edge e.kind.0 e.p.entries (tree_at c e.child.0)
 
-planted_equal : (c : Content) (e f : EdgeTo) → IsDistinct c.trees → e.child.0 < length c.trees → f.child.0 < length c.trees → planted_at c e ≡ planted_at c f → e ≡ f
+planted_equal : (c : Content) (e f : EdgeTo) → IsDistinct c.trees → e.child.0 < length c.trees →
+    f.child.0 < length c.trees → planted_at c e ≡ planted_at c f → e ≡ f
 planted_equal c e f d he hf h =
     let one : tree_over c.trees [] (e ∷ []) ≡ tree_over c.trees [] (f ∷ []) = ap (λ (x : Planted). graft x.kind x.p x.child (bare [])) h in
     let both = tree_over-injective c.trees [] [] (e ∷ []) (f ∷ []) d (he, tt) (hf, tt) one in
@@ -42,7 +44,9 @@ unit_of : (r : Ordering) → r ≡ Equal → is_eq r ≡ true
 unit_of r h = rw h refl
 
 -- a test of equality of edges agrees with edge order
-test_at : (c : Content) (e f : EdgeTo) (b : Bool) → Decides b (f ≡ e) → IsDistinct c.trees → e.child.0 < length c.trees → f.child.0 < length c.trees → b ≡ is_eq (planted_order (planted_at c e) (planted_at c f))
+test_at : (c : Content) (e f : EdgeTo) (b : Bool) → Decides b (f ≡ e) → IsDistinct c.trees →
+    e.child.0 < length c.trees → f.child.0 < length c.trees →
+    b ≡ is_eq (planted_order (planted_at c e) (planted_at c f))
 test_at c e f true h d he hf =
     let same : f ≡ e = h.0 refl in
     sym (unit_of (planted_order (planted_at c e) (planted_at c f)) (subst (λ (g : EdgeTo). planted_order (planted_at c e) (planted_at c g) ≡ Equal) (sym same) (own_order (planted_at c e))))
@@ -54,7 +58,9 @@ test_at c e f false h d he hf =
     ]) refl
 
 -- how often an edge stands among edges
-multiplicity_is : (c : Content) (eq : EdgeTo → EdgeTo → Bool) (e : EdgeTo) (es : List EdgeTo) → ((a b : EdgeTo) → Decides (eq a b) (a ≡ b)) → IsDistinct c.trees → e.child.0 < length c.trees → AreBelow (length c.trees) es →
+multiplicity_is : (c : Content) (eq : EdgeTo → EdgeTo → Bool) (e : EdgeTo) (es : List EdgeTo) →
+    ((a b : EdgeTo) → Decides (eq a b) (a ≡ b)) → IsDistinct c.trees → e.child.0 < length c.trees →
+    AreBelow (length c.trees) es →
     length (filter (λ f. eq f e) es) ≡ count_of planted_order (planted_at c e) (root_edges (tree_over c.trees [] es))
 multiplicity_is c eq e [] decides d he b = refl
 multiplicity_is c eq e (f ∷ es) decides d he b =
@@ -63,7 +69,9 @@ multiplicity_is c eq e (f ∷ es) decides d he b =
     length-kept (eq f e) f (filter (λ g. eq g e) es) ∙ rw (test, rest) refl
 
 -- the edge itself and those behind it
-multiplicity_left : (c : Content) (eq : EdgeTo → EdgeTo → Bool) (es : List EdgeTo) (i : ℕ) (d : EdgeTo) → ((a b : EdgeTo) → Decides (eq a b) (a ≡ b)) → IsDistinct c.trees → AreBelow (length c.trees) es → i < length es →
+multiplicity_left : (c : Content) (eq : EdgeTo → EdgeTo → Bool) (es : List EdgeTo) (i : ℕ) (d : EdgeTo) →
+    ((a b : EdgeTo) → Decides (eq a b) (a ≡ b)) → IsDistinct c.trees →
+    AreBelow (length c.trees) es → i < length es →
     length (filter (λ f. eq f (get_or es i d)) (drop i es)) ≡ suc (count_of planted_order (planted_at c (get_or es i d)) (root_edges (tree_over c.trees [] (drop (i + 1) es))))
 multiplicity_left c eq es i d decides distinct b lt =
     let e = get_or es i d in
@@ -83,7 +91,9 @@ edges_root : (n m : List ℕ) (es : List Labelled) → factored_edges (grafted n
 edges_root n m [] = refl
 edges_root n m (e ∷ es) = ap (λ (xs : List (Planted × ℕ)). (root_edge e.kind.0 e.p.entries e.child, symmetry_of e.child) ∷ xs) (edges_root n m es)
 
-pub symmetry_whole : (c : Content) (i : ℕ) (n : List ℕ) (es : List EdgeTo) → Holds c i (tree_over c.trees n es) → symmetry_of (tree_over c.trees [] es) ≡ symmetry_of (tree_at c i)
+pub symmetry_whole : (c : Content) (i : ℕ) (n : List ℕ) (es : List EdgeTo) →
+    Holds c i (tree_over c.trees n es) →
+    symmetry_of (tree_over c.trees [] es) ≡ symmetry_of (tree_at c i)
 symmetry_whole c i n es h = ap symmetry_product (edges_root [] n (map (edge_over c.trees) es)) ∙ sym (ap symmetry_of (at_holds c i (tree_over c.trees n es) h))
 
 symmetry_bound : (c : Content) (i : ℕ) (t : Plain) → Holds c i t → edge_count_of t ≤ 24 → symmetry_of (tree_at c i) ≤ factorial 24
@@ -105,8 +115,10 @@ factorial_24 = refl
 next_factor : (f m s x k r w : ℕ) → m ≡ k → s ≡ x → f * (x * k * r) ≡ w → f * (m * s) * r ≡ w
 next_factor f m s x k r w hm hs h = rw (hm, hs) (omega (arith, h))
 
--- one step over the edges of a node: the factor so far times that of the edges that are left is the whole
-pub edge_step : (c : Content) (eq : EdgeTo → EdgeTo → Bool) (id : ℕ) (n : List ℕ) (es : List EdgeTo) (i f m s : ℕ) → ((a b : EdgeTo) → Decides (eq a b) (a ≡ b)) → IsDistinct c.trees → id < length c.trees →
+-- one step over the edges of a node: the factor so far times that of the edges that are left is the
+-- whole
+pub edge_step : (c : Content) (eq : EdgeTo → EdgeTo → Bool) (id : ℕ) (n : List ℕ) (es : List EdgeTo) (i f m s : ℕ) →
+    ((a b : EdgeTo) → Decides (eq a b) (a ≡ b)) → IsDistinct c.trees → id < length c.trees →
     Holds c id (tree_over c.trees n es) → AreBelow id es → edge_count_of (tree_over c.trees n es) ≤ 24 → i < length es →
     m ≡ length (filter (λ g. eq g (get_or es i no_edge)) (take (length es - i) (drop i es))) → s ≡ symmetry_of (tree_at c (get_or es i no_edge).child.0) →
     f * symmetry_of (tree_over c.trees [] (drop i es)) ≡ symmetry_of (tree_at c id) →
@@ -128,7 +140,9 @@ edge_step c eq id n es i f m s decides distinct known there b small lt count abo
       next_factor f m s child many rest whole is above product,
     )
 
-pub edges_done : (c : Content) (id : ℕ) (n : List ℕ) (es : List EdgeTo) (i f : ℕ) → Holds c id (tree_over c.trees n es) → edge_count_of (tree_over c.trees n es) ≤ 24 → length es ≤ i →
+pub edges_done : (c : Content) (id : ℕ) (n : List ℕ) (es : List EdgeTo) (i f : ℕ) →
+    Holds c id (tree_over c.trees n es) → edge_count_of (tree_over c.trees n es) ≤ 24 →
+    length es ≤ i →
     f * symmetry_of (tree_over c.trees [] (drop i es)) ≡ symmetry_of (tree_at c id) → (f ≡ symmetry_of (tree_at c id)) × (f ≤ factorial 24)
 edges_done c id n es i f there small end inv =
     let last : symmetry_of (tree_over c.trees [] (drop i es)) ≡ 1 = ap symmetry_of (tree_end c [] es i end) ∙ symmetry-bare [] in

@@ -54,7 +54,8 @@ pub factors-monomial : (ty : Types) (fs : List EdgeType) → IsMonomial (monomia
 factors-monomial ty [] = no_symbols
 factors-monomial ty (f ∷ fs) = is_monomial-with (factor_symbol ty f) (monomial_product (map (factor_symbol ty) fs) []) (factor-bounded ty f) (factors-monomial ty fs)
 
-pub right-monomial : (ty : Types) (ps : List ℕ) (fs : List EdgeType) → IsMonomial (monomial_product (map parameter ps) (monomial_product (map (factor_symbol ty) fs) []))
+pub right-monomial : (ty : Types) (ps : List ℕ) (fs : List EdgeType) →
+    IsMonomial (monomial_product (map parameter ps) (monomial_product (map (factor_symbol ty) fs) []))
 right-monomial ty [] fs = factors-monomial ty fs
 right-monomial ty (p ∷ ps) fs = is_monomial-with (parameter p) (monomial_product (map parameter ps) (monomial_product (map (factor_symbol ty) fs) [])) no_tree (right-monomial ty ps fs)
 

@@ -136,7 +136,10 @@ child-canonical e (bare n) h k = absurd k
 child-canonical e (graft l q d t) h k = elim k [ inl s ↦ subst (λ (g : Planted). IsCanonical g.child) s h.0 | inr r ↦ child-canonical e t h.1 r ]
 
 -- what is less without the edge
-one_less : (e : Planted) (l : ℕ) (q : List ℕ) (d t : Plain) (P : Plain → Type 0) → (same e (root_edge l q d) ≡ true → e ≡ root_edge l q d → P t) → (same e (root_edge l q d) ≡ false → P (graft l q d (without e t))) → P (without e (graft l q d t))
+one_less : (e : Planted) (l : ℕ) (q : List ℕ) (d t : Plain) (P : Plain → Type 0) →
+    (same e (root_edge l q d) ≡ true → e ≡ root_edge l q d → P t) →
+    (same e (root_edge l q d) ≡ false → P (graft l q d (without e t))) →
+    P (without e (graft l q d t))
 one_less e l q d t P taken kept =
     (elim (same e (root_edge l q d)) as (λ b. same e (root_edge l q d) ≡ b → P (if b then t else graft l q d (without e t))) [
       | true ↦ λ s. taken s (same_is e (root_edge l q d) s)
@@ -164,7 +167,8 @@ factorials-without e (graft l q d t) k =
     step a b x y h = rw h (omega arith)
 
 -- how often an edge stands at the root of what is left
-pub counts-without : (z e : Planted) (t : Plain) → IsIn e (root_edges t) → count_of planted_order z (root_edges t) ≡ count_of planted_order z (e ∷ []) + count_of planted_order z (root_edges (without e t))
+pub counts-without : (z e : Planted) (t : Plain) → IsIn e (root_edges t) →
+    count_of planted_order z (root_edges t) ≡ count_of planted_order z (e ∷ []) + count_of planted_order z (root_edges (without e t))
 counts-without z e (bare n) k = absurd k
 counts-without z e (graft l q d t) k =
     one_less e l q d t (λ u. count_of planted_order z (root_edges (graft l q d t)) ≡ count_of planted_order z (e ∷ []) + count_of planted_order z (root_edges u))
@@ -174,7 +178,8 @@ symmetry_step : (f g b m w r : ℕ) → r ≡ g * b * w → f * suc m * r ≡ g 
 symmetry_step f g b m w r h = rw h (omega arith)
 
 -- the symmetry factor by any edge of the root
-pub symmetry-without : (e : Planted) (t : Plain) → IsIn e (root_edges t) → symmetry_of t ≡ symmetry_of e.child * count_of planted_order e (root_edges t) * symmetry_of (without e t)
+pub symmetry-without : (e : Planted) (t : Plain) → IsIn e (root_edges t) →
+    symmetry_of t ≡ symmetry_of e.child * count_of planted_order e (root_edges t) * symmetry_of (without e t)
 symmetry-without e (bare n) k = absurd k
 symmetry-without e (graft l q d t) k =
     one_less e l q d t (λ u. symmetry_of (graft l q d t) ≡ symmetry_of e.child * count_of planted_order e (root_edges (graft l q d t)) * symmetry_of u)

@@ -21,7 +21,9 @@ module _ (ty : Types) (side : List PlainTerm) (t : Plain) (n : List ℕ) (left :
   left-factor : total_derivatives 0 n left ≡ root_factor ty side t
   left-factor = ap (λ (ms : List ℕ). total_derivatives 0 ms left) (sym root) ∙ ap (total_derivatives 0 (root_of t)) is
 
-  pub left-same : (r : Result Poly PolyError) (ts us : List PlainTerm) → us ≡ ts → HaveSameCoefficients ts (total_derivatives 0 n left) → IfOk r (λ p. HaveSameCoefficients (terms_of p.terms) us) →
+  pub left-same : (r : Result Poly PolyError) (ts us : List PlainTerm) → us ≡ ts →
+      HaveSameCoefficients ts (total_derivatives 0 n left) →
+      IfOk r (λ p. HaveSameCoefficients (terms_of p.terms) us) →
       IfOk r (λ p. HaveSameCoefficients (terms_of p.terms) (root_factor ty side t))
   left-same (Ok p) ts us e same h = λ m. h m ∙ ap (coefficient_of m) e ∙ same m ∙ ap (coefficient_of m) left-factor
   left-same (Err e) ts us i same h = h

@@ -58,7 +58,8 @@ symmetry_is t =
     (λ e. ap (λ (n : ℕ). factor_above e ^ n * factorial n) (count_of-valued planted_order factor_above e es)))
 
 -- one edge more at the root
-pub symmetry-graft : (k : ℕ) (p : List ℕ) (c t : Plain) → symmetry_of (graft k p c t) ≡ symmetry_of c * suc (count_of planted_order (root_edge k p c) (root_edges t)) * symmetry_of t
+pub symmetry-graft : (k : ℕ) (p : List ℕ) (c t : Plain) →
+    symmetry_of (graft k p c t) ≡ symmetry_of c * suc (count_of planted_order (root_edge k p c) (root_edges t)) * symmetry_of t
 symmetry-graft k p c t =
     symmetry_is (graft k p c t)
     ∙ power_product-cons planted_order planted_total planted_exact factor_above (root_edge k p c) (root_edges t)

@@ -1,4 +1,5 @@
--- Total derivatives of lists of terms: they depend on the coefficients of the monomials alone, and they keep monomials.
+-- Total derivatives of lists of terms: they depend on the coefficients of the monomials alone, and
+-- they keep monomials.
 use Rattle.std.proofs.Common.{◌≡◌, ℕ, zero, suc, ◌+◌, ◌<◌, ◌≤◌, ◌-◌, ℤ, pos, ◌+ℤ◌, cond, List, [], ◌∷◌, ◌++◌, length, map, take, drop, get_or, slice_set, append_assoc, append-nil, refl, sym, ap, subst, ◌∙◌, arith}
 use Rattle.std.specs.List.{AllByRecursion}
 use Rattle.std.specs.Ordering.{is_eq}
@@ -29,7 +30,8 @@ derived d t = with_coefficient t.coefficient (further d t.symbols)
 exchanged : (a b c d x y : ℤ) → x ≡ a +ℤ b → y ≡ c +ℤ d → x +ℤ y ≡ a +ℤ c +ℤ (b +ℤ d)
 exchanged a b c d x y h k = omega (arith, ints, h, k)
 
-with-sum : (m : List PlainSymbol) (a b : ℤ) (ns : List (List PlainSymbol)) → coefficient_of m (with_coefficient (a +ℤ b) ns) ≡ coefficient_of m (with_coefficient a ns) +ℤ coefficient_of m (with_coefficient b ns)
+with-sum : (m : List PlainSymbol) (a b : ℤ) (ns : List (List PlainSymbol)) →
+    coefficient_of m (with_coefficient (a +ℤ b) ns) ≡ coefficient_of m (with_coefficient a ns) +ℤ coefficient_of m (with_coefficient b ns)
 with-sum m a b [] = refl
 with-sum m a b (n ∷ ns) =
     let here = is_eq (monomial_order n m) in
@@ -51,18 +53,21 @@ derived-linear m d = record {
   none = λ t h. with-none m t.coefficient (further d t.symbols) h;
 }
 
-total-total : (m : List PlainSymbol) (d : ℕ) (ts : List PlainTerm) → coefficient_of m (total_derivative d ts) ≡ total_of (λ t. coefficient_of m (derived d t)) ts
+total-total : (m : List PlainSymbol) (d : ℕ) (ts : List PlainTerm) →
+    coefficient_of m (total_derivative d ts) ≡ total_of (λ t. coefficient_of m (derived d t)) ts
 total-total m d [] = refl
 total-total m d (t ∷ ts) = coefficient_of-append m (derived d t) (total_derivative d ts) ∙ ap (λ (c : ℤ). coefficient_of m (derived d t) +ℤ c) (total-total m d ts)
 
 pub total-same : (d : ℕ) (ts us : List PlainTerm) → HaveSameCoefficients ts us → HaveSameCoefficients (total_derivative d ts) (total_derivative d us)
 total-same d ts us h = λ m. total-total m d ts ∙ same_totals (λ t. coefficient_of m (derived d t)) (derived-linear m d) ts us h ∙ sym (total-total m d us)
 
-pub repeated-same : (n d : ℕ) (ts us : List PlainTerm) → HaveSameCoefficients ts us → HaveSameCoefficients (repeated n (total_derivative d) ts) (repeated n (total_derivative d) us)
+pub repeated-same : (n d : ℕ) (ts us : List PlainTerm) → HaveSameCoefficients ts us →
+    HaveSameCoefficients (repeated n (total_derivative d) ts) (repeated n (total_derivative d) us)
 repeated-same zero d ts us h = h
 repeated-same (suc n) d ts us h = repeated-same n d (total_derivative d ts) (total_derivative d us) (total-same d ts us h)
 
-pub totals-same : (d : ℕ) (ms : List ℕ) (ts us : List PlainTerm) → HaveSameCoefficients ts us → HaveSameCoefficients (total_derivatives d ms ts) (total_derivatives d ms us)
+pub totals-same : (d : ℕ) (ms : List ℕ) (ts us : List PlainTerm) → HaveSameCoefficients ts us →
+    HaveSameCoefficients (total_derivatives d ms ts) (total_derivatives d ms us)
 totals-same d [] ts us h = h
 totals-same d (n ∷ ms) ts us h = totals-same (suc d) ms (repeated n (total_derivative d) ts) (repeated n (total_derivative d) us) (repeated-same n d ts us h)
 
@@ -100,7 +105,8 @@ low-each : (b : ℕ) (s : PlainSymbol) (ms : List (List PlainSymbol)) → HasBou
 low-each b s [] t l h = tt
 low-each b s (m ∷ ms) t l h = (low-with b s m t l h.0, low-each b s ms t l h.1)
 
-low-own : (b d : ℕ) (s : PlainSymbol) (m : List PlainSymbol) → IsLow b s → IsLowMonomial (suc b) m → AllLow (suc b) (map (λ r. with_symbol r m) (further_symbol d s))
+low-own : (b d : ℕ) (s : PlainSymbol) (m : List PlainSymbol) → IsLow b s → IsLowMonomial (suc b) m →
+    AllLow (suc b) (map (λ r. with_symbol r m) (further_symbol d s))
 low-own b d (parameter i) m l h = tt
 low-own b d (variable k p) m l h = (low-with (suc b) (variable k (one_more d p)) m no_tree (more-low b d p l) h, tt)
 low-own b d (noise k) m l h = tt
@@ -142,7 +148,8 @@ low-more b c [] h a = tt
 low-more b c (t ∷ ts) h a = (record { monomial = a.0.monomial; low = symbols-more b c t.symbols h a.0.low }, low-more b c ts h a.1)
 
 -- one step of the recursion
-times-with : (s : PlainSymbol) (c : ℤ) (ms : List (List PlainSymbol)) → map (times_symbol s) (with_coefficient c ms) ≡ with_coefficient c (map (with_symbol s) ms)
+times-with : (s : PlainSymbol) (c : ℤ) (ms : List (List PlainSymbol)) →
+    map (times_symbol s) (with_coefficient c ms) ≡ with_coefficient c (map (with_symbol s) ms)
 times-with s c [] = refl
 times-with s c (m ∷ ms) = ap (λ (ts : List PlainTerm). record { coefficient = c; symbols = with_symbol s m } ∷ ts) (times-with s c ms)
 
@@ -150,7 +157,8 @@ with-append : (c : ℤ) (ms ns : List (List PlainSymbol)) → with_coefficient c
 with-append c [] ns = refl
 with-append c (m ∷ ms) ns = ap (λ (ts : List PlainTerm). record { coefficient = c; symbols = m } ∷ ts) (with-append c ms ns)
 
-pub further-step : (c : ℤ) (d : ℕ) (s : PlainSymbol) (m : List PlainSymbol) (first later whole : List PlainTerm) → first ≡ with_coefficient c (own_places d s m) → later ≡ with_coefficient c (further d m) →
+pub further-step : (c : ℤ) (d : ℕ) (s : PlainSymbol) (m : List PlainSymbol) (first later whole : List PlainTerm) →
+    first ≡ with_coefficient c (own_places d s m) → later ≡ with_coefficient c (further d m) →
     whole ≡ first ++ map (times_symbol s) later → whole ≡ with_coefficient c (further d (s ∷ m))
 further-step c d s m first later whole h k e =
     e ∙ ap (λ (ts : List PlainTerm). ts ++ map (times_symbol s) later) h ∙ ap (λ (ts : List PlainTerm). with_coefficient c (own_places d s m) ++ map (times_symbol s) ts) k
@@ -175,7 +183,9 @@ first-rest b ss s h e k =
     let low : IsLowMonomial b (symbol_of s ∷ rest) = subst (λ (m : List PlainSymbol). IsLowMonomial b m) (parted ss s h e) k in
     (low.low.0, (low.monomial.trees.0, low-rest b (symbol_of s) rest low))
 
-pub later-monomials : (b d : ℕ) (c : ℤ) (m : List PlainSymbol) (us : List PlainTerm) → us ≡ with_coefficient c (further d m) → IsLowMonomial b m → AllByRecursion IsMonomial (monomials us)
+pub later-monomials : (b d : ℕ) (c : ℤ) (m : List PlainSymbol) (us : List PlainTerm) →
+    us ≡ with_coefficient c (further d m) → IsLowMonomial b m →
+    AllByRecursion IsMonomial (monomials us)
 later-monomials b d c m us e h = are_monomials (suc b) us (subst (λ (ts : List PlainTerm). AreLow (suc b) ts) (sym e) (low-derived b d c m h))
 
 pub further-whole : (c : ℤ) (d : ℕ) (ss : List Symbol) (s : Symbol) (first later whole : List PlainTerm) → 1 ≤ length ss → s ≡ get_or ss 0 s →
@@ -195,13 +205,16 @@ entry-at-most b d [] h = omega arith
 entry-at-most b zero (x ∷ xs) h = h.0
 entry-at-most b (suc d) (x ∷ xs) h = entry-at-most b d xs h.1
 
-pub low_at : (b : ℕ) (ts : List Term) (i : ℕ) (t : Term) → i < length ts → t ≡ get_or ts i t → AreLow b (terms_of ts) → IsLowMonomial b (map symbol_of t.symbols)
+pub low_at : (b : ℕ) (ts : List Term) (i : ℕ) (t : Term) → i < length ts → t ≡ get_or ts i t →
+    AreLow b (terms_of ts) → IsLowMonomial b (map symbol_of t.symbols)
 low_at b [] i t h e a = absurd (omega arith)
 low_at b (u ∷ ts) zero t h e a = rw e a.0
 low_at b (u ∷ ts) (suc i) t h e a = low_at b ts i t (omega arith) e a.1
 
 -- one more term's derivative
-pub total-push : (d : ℕ) (ts : List Term) (i : ℕ) (t : Term) (done more new : List PlainTerm) → i < length ts → t ≡ get_or ts i t → done ++ total_derivative d (terms_of (drop i ts)) ≡ total_derivative d (terms_of ts) →
+pub total-push : (d : ℕ) (ts : List Term) (i : ℕ) (t : Term) (done more new : List PlainTerm) →
+    i < length ts → t ≡ get_or ts i t →
+    done ++ total_derivative d (terms_of (drop i ts)) ≡ total_derivative d (terms_of ts) →
     more ≡ derived d (term_of t) → new ≡ done ++ more → new ++ total_derivative d (terms_of (drop (i + 1) ts)) ≡ total_derivative d (terms_of ts)
 total-push d ts i t done more new h e k is made =
     let cut : drop i ts ≡ t ∷ drop (i + 1) ts = grind (arith, common_steps) in
@@ -209,7 +222,9 @@ total-push d ts i t done more new h e k is made =
     ap (λ (us : List PlainTerm). us ++ rest) (made ∙ ap (λ (us : List PlainTerm). done ++ us) is) ∙ append_assoc done (derived d (term_of t)) rest
     ∙ ap (λ (us : List Term). done ++ total_derivative d (terms_of us)) (sym cut) ∙ k
 
-pub total-done : (d : ℕ) (ts : List Term) (i : ℕ) (done : List PlainTerm) → length ts ≤ i → done ++ total_derivative d (terms_of (drop i ts)) ≡ total_derivative d (terms_of ts) → done ≡ total_derivative d (terms_of ts)
+pub total-done : (d : ℕ) (ts : List Term) (i : ℕ) (done : List PlainTerm) → length ts ≤ i →
+    done ++ total_derivative d (terms_of (drop i ts)) ≡ total_derivative d (terms_of ts) →
+    done ≡ total_derivative d (terms_of ts)
 total-done d ts i done h k = sym (append-nil done) ∙ ap (λ (us : List Term). done ++ total_derivative d (terms_of us)) (sym (drop_all i ts h)) ∙ k
 
 pub terms-append : (ts us : List Term) → terms_of (ts ++ us) ≡ terms_of ts ++ terms_of us

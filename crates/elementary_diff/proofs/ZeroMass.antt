@@ -18,6 +18,7 @@ no_size m [] h = refl
 no_size m (t ∷ ts) h =
     nothing_more (is_eq (monomial_order t.symbols m)) t.coefficient (coefficient_of m ts) (size_of ts) (omega (arith, h)) (no_size m ts (omega (arith, h)))
 
-pub no-mass : (eq : Equation) (k : ℕ) (t : Plain) (ts : List PlainTerm) → differential_mass eq k t ≡ 0 → ts ≡ [] → HaveSameCoefficients ts (differential_terms eq k t)
+pub no-mass : (eq : Equation) (k : ℕ) (t : Plain) (ts : List PlainTerm) →
+    differential_mass eq k t ≡ 0 → ts ≡ [] → HaveSameCoefficients ts (differential_terms eq k t)
 no-mass eq k t ts h e = λ m.
     ap (coefficient_of m) e ∙ sym (no_size m (differential_terms eq k t) (differential-size eq.types (right_terms eq) k t ∙ sym (differential_mass-is eq k t) ∙ h))

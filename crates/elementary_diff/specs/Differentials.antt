@@ -1,21 +1,46 @@
--- Elementary differentials, after Bruned, Chandra, Chevyrev and Hairer, as lists of terms that are not collected: as polynomials they are known by the coefficients of their
--- monomials.
+-- Elementary differentials, after Bruned, Chandra, Chevyrev and Hairer, as lists of terms that are
+-- not collected: as polynomials they are known by the coefficients of their monomials.
 --   Sides == the right side of each kernel, by its type number, as a list of terms
---   right_terms eq k == the right side of kernel k times the common denominator of the coefficients: a term's parameters, variables and noises are its symbols
---   edge_derivatives ty e ts == D_o: the derivatives of ts by the variable of the edge type e; by a noise, of which a derivative is 0 where e has one
+--   symbol_by kind k p == the noise k, or the derivative, by the multiindex p, of the unknown of
+--       kernel k
+--   factor_symbol ty f == the symbol of a factor of a right side
+--   right_term ty t == a term of a right side, with its parameters and factors as symbols
+--   side_of ty us k == the right side of the first of the unknowns us that has the kernel k; none
+--       where none has it
+--   right_terms eq k == the right side of kernel k times the common denominator of the
+--       coefficients: a term's parameters, variables and noises are its symbols
+--   edge_derivatives_by kind k p ts == the derivatives by an edge type of this kind
+--   edge_derivatives ty e ts == D_o: the derivatives of ts by the variable of the edge type e; by a
+--       noise, of which a derivative is 0 where e has one
 --   by_edges ty t ts == the derivatives of ts by the edge types of the edges of the root of t
+--   is_noise_symbol s == s is a noise
 --   noise_free ts == the terms without a noise
---   further d m == the monomials in which one variable of m has one more derivative in direction d, for each of its variables
---   total_derivative d ts == the total derivative in direction d: the sum over the kernel variables o of var(o + e_d) * D_o
---   total_derivatives ms ts == the total derivative of each direction, as often as the multiindex says
---   root_factor ty side t == the derivatives by the root's edges, then the noise-free part, then the total derivatives by the root's decoration
---   above_factor ty sides t == the product, over the kernel edges of the root, of the differentials of the trees above them
---   differential_of ty sides k t == Y_k(t), the elementary differential of t for the right sides, at kernel k
+--   one_more d m == the multiindex m with one more in direction d
+--   further_symbol d s == the variable s with one more derivative in direction d, alone; none where
+--       s is no variable
+--   further d m == the monomials in which one variable of m has one more derivative in direction d,
+--       for each of its variables
+--   total_derivative d ts == the total derivative in direction d: the sum over the kernel variables
+--       o of var(o + e_d) * D_o
+--   repeated n f ts == f, taken n times
+--   total_derivatives ms ts == the total derivative of each direction, as often as the multiindex
+--       says
+--   root_factor ty side t == the derivatives by the root's edges, then the noise-free part, then
+--       the total derivatives by the root's decoration
+--   one_term == the polynomial 1
+--   kernel_factor kind ts == ts for an edge of a kernel, else 1
+--   above_factor ty sides t == the product, over the kernel edges of the root, of the differentials
+--       of the trees above them
+--   differential_of ty sides k t == Y_k(t), the elementary differential of t for the right sides,
+--       at kernel k
 --   differential_terms eq k t == that of the equation
 --   absolute_terms ts == the terms with the absolute values of their coefficients
---   differential_mass eq k t == the sum of the coefficients of the same expression with the absolute values of the coefficients of the right sides
+--   differential_mass eq k t == the sum of the coefficients of the same expression with the
+--       absolute values of the coefficients of the right sides
+--   kernel_edge kind == 1 for an edge of a kernel, else 0
 --   kernel_edges ty t == the number of kernel edges
---   denominator_of eq t == the symmetry factor times the common denominator to the power of 1 and the number of kernel edges
+--   denominator_of eq t == the symmetry factor times the common denominator to the power of 1 and
+--       the number of kernel edges
 use Rattle.std.specs.Prelude.{ℕ, zero, suc, ◌+◌, ◌*◌, ◌^◌, ◌==◌, pos, unsigned_abs, Bool, not, cond, List, [], ◌∷◌, ◌++◌, map, flat_map, filter}
 use Rattle.std.specs.List.{list_any}
 use Rattle.std.specs.declared.option.Option.{Option}
@@ -48,7 +73,10 @@ abbrev pub factor_symbol : Types → EdgeType → PlainSymbol
 factor_symbol ty f = symbol_by (kind_of ty f.0.0) f.0.0 f.1.entries
 
 abbrev pub right_term : Types → RightTerm → PlainTerm
-right_term ty t = record { coefficient = t.coefficient; symbols = monomial_product (map parameter t.parameters) (monomial_product (map (factor_symbol ty) t.factors) []) }
+right_term ty t = record {
+  coefficient = t.coefficient;
+  symbols = monomial_product (map parameter t.parameters) (monomial_product (map (factor_symbol ty) t.factors) []);
+}
 
 abbrev pub side_of : Types → List Unknown → ℕ → List PlainTerm
 side_of ty [] k = []
@@ -90,10 +118,13 @@ further_symbol d (Rattle.symbol_polys.specs.Symbols.expectation t) = []
 
 abbrev pub further : ℕ → List PlainSymbol → List (List PlainSymbol)
 further d [] = []
-further d (s ∷ m) = map (λ r. with_symbol r m) (further_symbol d s) ++ map (with_symbol s) (further d m)
+further d (s ∷ m) = map (λ r. with_symbol r m) (further_symbol d s)
+    ++ map (with_symbol s) (further d m)
 
 abbrev pub total_derivative : ℕ → List PlainTerm → List PlainTerm
-total_derivative d ts = flat_map (λ t. map (λ m. record { coefficient = t.coefficient; symbols = m }) (further d t.symbols)) ts
+total_derivative d ts =
+    flat_map (λ t. map (λ m. record { coefficient = t.coefficient; symbols = m })
+    (further d t.symbols)) ts
 
 abbrev pub repeated : ℕ → (List PlainTerm → List PlainTerm) → List PlainTerm → List PlainTerm
 repeated zero f ts = ts
@@ -116,7 +147,9 @@ kernel_factor (Some Kernel) ts = ts
 
 abbrev pub above_factor : Types → Sides → Plain → List PlainTerm
 above_factor ty sides (bare n) = one_term
-above_factor ty sides (graft k p c t) = products (kernel_factor (kind_of ty k) (products (root_factor ty (sides k) c) (above_factor ty sides c))) (above_factor ty sides t)
+above_factor ty sides (graft k p c t) =
+    products (kernel_factor (kind_of ty k) (products (root_factor ty (sides k) c)
+    (above_factor ty sides c))) (above_factor ty sides t)
 
 abbrev pub differential_of : Types → Sides → ℕ → Plain → List PlainTerm
 differential_of ty sides k t = products (root_factor ty (sides k) t) (above_factor ty sides t)
@@ -125,10 +158,12 @@ abbrev pub differential_terms : Equation → ℕ → Plain → List PlainTerm
 differential_terms eq k t = differential_of eq.types (right_terms eq) k t
 
 abbrev pub absolute_terms : List PlainTerm → List PlainTerm
-absolute_terms ts = map (λ t. record { coefficient = pos (unsigned_abs t.coefficient); symbols = t.symbols }) ts
+absolute_terms ts =
+    map (λ t. record { coefficient = pos (unsigned_abs t.coefficient); symbols = t.symbols }) ts
 
 abbrev pub differential_mass : Equation → ℕ → Plain → ℕ
-differential_mass eq k t = size_of (differential_of eq.types (λ i. absolute_terms (right_terms eq i)) k t)
+differential_mass eq k t =
+    size_of (differential_of eq.types (λ i. absolute_terms (right_terms eq i)) k t)
 
 abbrev pub kernel_edge : Option Kind → ℕ
 kernel_edge None = 0

@@ -1,5 +1,7 @@
 -- Symbols of an equation.
---   IsKnown ty ps s == s is one of the parameters ps, a noise, or a variable whose derivative is in the directions of the scaling
+-- Working notions of the code and of proofs, which no contract of a public call names:
+--   IsKnown ty ps s == s is one of the parameters ps, a noise, or a variable whose derivative is in
+--       the directions of the scaling
 --   AreKnown ty ps ts == the symbols of the terms are
 --   IsFiveLong s == where s is a variable, its multiindex has five entries
 --   AreFiveLong ts == so it is with the symbols of the terms
@@ -13,7 +15,8 @@ use Rattle.symbol_polys.specs.Polynomials.{PlainTerm}
 
 abbrev pub IsKnown : Types → List (List ℕ) → PlainSymbol → Type 0
 IsKnown ty ps (parameter i) = i < length ps
-IsKnown ty ps (variable k m) = (kind_of ty k ≡ Some Kernel) × ((i : ℕ) → ty.dims ≤ i → slice_index m i ≡ 0)
+IsKnown ty ps (variable k m) =
+    (kind_of ty k ≡ Some Kernel) × ((i : ℕ) → ty.dims ≤ i → slice_index m i ≡ 0)
 IsKnown ty ps (noise k) = kind_of ty k ≡ Some Noise
 IsKnown ty ps (Rattle.symbol_polys.specs.Symbols.tree t) = ⊥
 IsKnown ty ps (Rattle.symbol_polys.specs.Symbols.expectation t) = ⊥

@@ -1,4 +1,5 @@
 -- Monomials whose variables have derivatives that are far from the range of their numbers.
+-- Working notions of the code and of proofs, which no contract of a public call names:
 --   most_entry == the greatest entry that is met: 8 in a right side, and 4,096 total derivatives
 --   AreAtMost b xs == the numbers are at most b
 --   IsLow b s == the entries of the multiindex of s are

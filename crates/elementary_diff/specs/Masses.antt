@@ -1,8 +1,15 @@
--- The mass of an elementary differential, node by node: a term with d variables has d places at which a total derivative acts, and each gives a term with d variables.
+-- The mass of an elementary differential, node by node: a term with d variables has d places at
+-- which a total derivative acts, and each gives a term with d variables.
+-- Working notions of the code and of proofs, which no contract of a public call names:
+--   one_variable s == 1 where the symbol s is a variable, else 0
 --   variable_count m == the number of variables in the monomial m
---   weight n ts == the sum, over the terms, of the absolute coefficient times the number of variables to the power n
---   root_mass ty side t == the weight of what is left at the root of t, for the sum of the root's decoration
---   above_mass ty sides t == the product of the masses of the trees above the kernel edges of the root
+--   weight n ts == the sum, over the terms, of the absolute coefficient times the number of
+--       variables to the power n
+--   root_mass ty side t == the weight of what is left at the root of t, for the sum of the root's
+--       decoration
+--   kernel_mass kind n == n for an edge of a kernel, else 1
+--   above_mass ty sides t == the product of the masses of the trees above the kernel edges of the
+--       root
 --   mass_of ty sides k t == the mass of t at kernel k
 use Rattle.std.specs.Prelude.{ℕ, ◌*◌, ◌^◌, unsigned_abs, List, sum}
 use Rattle.std.specs.declared.option.Option.{Option}
@@ -40,7 +47,8 @@ kernel_mass (Some Kernel) n = n
 
 abbrev pub above_mass : Types → Sides → Plain → ℕ
 above_mass ty sides (bare n) = 1
-above_mass ty sides (graft k p c t) = kernel_mass (kind_of ty k) (root_mass ty (sides k) c * above_mass ty sides c) * above_mass ty sides t
+above_mass ty sides (graft k p c t) = kernel_mass (kind_of ty k) (root_mass ty (sides k) c
+    * above_mass ty sides c) * above_mass ty sides t
 
 abbrev pub mass_of : Types → Sides → ℕ → Plain → ℕ
 mass_of ty sides k t = root_mass ty (sides k) t * above_mass ty sides t

@@ -1,6 +1,8 @@
 -- The terms that a total derivative makes of one.
+-- Working notions of the code and of proofs, which no contract of a public call names:
 --   with_coefficient c ms == the monomials with the coefficient c
---   own_places d s m == the monomials that come of s times m where s itself has one more derivative in direction d
+--   own_places d s m == the monomials that come of s times m where s itself has one more derivative
+--       in direction d
 --   times_symbol s t == the term t times the symbol s
 use Rattle.std.specs.Prelude.{ℕ, ℤ, List, map}
 use Rattle.symbol_polys.specs.Symbols.{PlainSymbol}

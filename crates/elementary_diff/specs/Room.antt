@@ -1,6 +1,8 @@
--- Terms whose derivatives keep their coefficients in range: each derivative multiplies a coefficient by a power, which is at most the number of symbols, and takes
--- a symbol away.
---   HasRoom t == the symbols of t are those of a monomial, and its absolute coefficient times the factorial of their number is in range
+-- Terms whose derivatives keep their coefficients in range: each derivative multiplies a
+-- coefficient by a power, which is at most the number of symbols, and takes a symbol away.
+-- Working notions of the code and of proofs, which no contract of a public call names:
+--   HasRoom t == the symbols of t are those of a monomial, and its absolute coefficient times the
+--       factorial of their number is in range
 --   HaveRoom ts == all terms do
 use Rattle.std.specs.Prelude.{◌<◌, ◌*◌, unsigned_abs, List, length}
 use Rattle.std.specs.List.{AllByRecursion}

@@ -1,5 +1,7 @@
 -- Polynomials that stand for lists of terms.
---   IsSumWithin us most p == p is a polynomial with the coefficients of the terms us, and its mass is at most most
+-- Working notions of the code and of proofs, which no contract of a public call names:
+--   IsSumWithin us most p == p is a polynomial with the coefficients of the terms us, and its mass
+--       is at most most
 use Rattle.std.specs.Prelude.{ℕ, ◌≤ℤ◌, pos, List}
 use Rattle.symbol_polys.specs.Polynomials.{PlainTerm, HaveSameCoefficients}
 use Rattle.symbol_polys.specs.View.{terms_of, IsPoly}

@@ -30,7 +30,8 @@ fn kernel_edges(types: &Types, pool: &Pool<'_>, id: TreeId) -> u32
     count
 }
 
-/// The symmetry factor of a tree times the common denominator to the power of 1 and the number of its kernel edges.
+/// The symmetry factor of a tree times the common denominator to the power of 1 and the number of
+/// its kernel edges.
 pub(crate) fn denominator(eq: &Equation, pool: &Pool<'_>, id: TreeId) -> Saturated
     requires equation { IsEquation eq.now }
     requires known { id.0 < length pool.now.trees }

@@ -30,15 +30,20 @@ fn in_range(value: Saturated) -> Option<u128>
     Some(value.value()?.unsigned_abs())
 }
 
-/// The elementary differential of a tree at a kernel (Bruned, Chandra, Chevyrev, Hairer), of right sides that are cleared by the common denominator Q of the
-/// equation. The right side of the kernel is differentiated by the edge types of the root's edges; the terms that still have a noise are dropped; then the total
-/// derivatives of the root's decoration are taken; the result is multiplied by the differentials of the trees above the root's kernel edges, each at its kernel. The
-/// denominator is the symmetry factor times Q to the power of 1 and the number of kernel edges. For the KPZ equation, `u'(0,1)^2+xi`, and the tree
-/// `[u'(0,1)[xi]*u'(0,1)[xi]]` it is `2` over 2. Its symbols are parameters and variables of the equation, so that `print_poly` writes it.
+/// The elementary differential of a tree at a kernel (Bruned, Chandra, Chevyrev, Hairer), of right
+/// sides that are cleared by the common denominator Q of the equation. The right side of the kernel
+/// is differentiated by the edge types of the root's edges; the terms that still have a noise are
+/// dropped; then the total derivatives of the root's decoration are taken; the result is multiplied
+/// by the differentials of the trees above the root's kernel edges, each at its kernel. The
+/// denominator is the symmetry factor times Q to the power of 1 and the number of kernel edges. For
+/// the KPZ equation, `u'(0,1)^2+xi`, and the tree `[u'(0,1)[xi]*u'(0,1)[xi]]` it is `2` over 2. Its
+/// symbols are parameters and variables of the equation, so that `print_poly` writes it.
 ///
-/// The differential mass is the sum of the coefficients of the same expression with the absolute values of the coefficients of the right sides; one factor that is 0
-/// makes it 0. Fails with `CoefficientTooLarge` exactly where it passes 2^127-1; with `DenominatorTooLarge` exactly where it is neither 0 nor too large and the
-/// denominator passes 2^127-1; and for want of memory. Where the mass is 0, the polynomial is 0 and the denominator is given as 1.
+/// The differential mass is the sum of the coefficients of the same expression with the absolute
+/// values of the coefficients of the right sides; one factor that is 0 makes it 0. Fails with
+/// `CoefficientTooLarge` exactly where it passes 2^127-1; with `DenominatorTooLarge` exactly where
+/// it is neither 0 nor too large and the denominator passes 2^127-1; and for want of memory. Where
+/// the mass is 0, the polynomial is 0 and the denominator is given as 1.
 pub fn differential(
     alloc: Global,
     eq: &Equation,
@@ -50,12 +55,18 @@ pub fn differential(
     requires known { id.0 < length pool.now.trees }
     requires types { pool.now.types ≡ eq.now.types }
     ensures poly { IfOk result (λ d. IsPoly d.poly) }
-    ensures coefficients { IfOk result (λ d. HaveSameCoefficients (terms_of d.poly.terms) (differential_terms eq.now kernel.0 (tree_at pool.now id.0))) }
-    ensures over { IfOk result (λ d. AllByRecursion (IsTermOver eq.now.types eq.now.parameters) (terms_of d.poly.terms)) }
-    ensures mass { IfOk result (λ d. d.poly.mass ≤ℤ pos (differential_mass eq.now kernel.0 (tree_at pool.now id.0))) }
-    ensures zero { IfOk result (λ d. differential_mass eq.now kernel.0 (tree_at pool.now id.0) ≡ 0 → terms_of d.poly.terms ≡ []) }
-    ensures denominator { IfOk result (λ d. d.denominator ≡ given_denominator eq.now kernel.0 (tree_at pool.now id.0)) }
-    ensures fits { IfOk result (λ d. (differential_mass eq.now kernel.0 (tree_at pool.now id.0) < overflow) × (given_denominator eq.now kernel.0 (tree_at pool.now id.0) < overflow)) }
+    ensures coefficients { IfOk result (λ d. HaveSameCoefficients (terms_of d.poly.terms)
+        (differential_terms eq.now kernel.0 (tree_at pool.now id.0))) }
+    ensures over { IfOk result (λ d. AllByRecursion (IsTermOver eq.now.types eq.now.parameters)
+        (terms_of d.poly.terms)) }
+    ensures mass { IfOk result (λ d. d.poly.mass
+        ≤ℤ pos (differential_mass eq.now kernel.0 (tree_at pool.now id.0))) }
+    ensures zero { IfOk result (λ d. differential_mass eq.now kernel.0 (tree_at pool.now id.0) ≡ 0 →
+        terms_of d.poly.terms ≡ []) }
+    ensures denominator { IfOk result (λ d. d.denominator ≡ given_denominator eq.now kernel.0
+        (tree_at pool.now id.0)) }
+    ensures fits { IfOk result (λ d. (differential_mass eq.now kernel.0 (tree_at pool.now id.0)
+        < overflow) × (given_denominator eq.now kernel.0 (tree_at pool.now id.0) < overflow)) }
     ensures refusal { IfErr result (IsRefused eq.now kernel.0 (tree_at pool.now id.0)) }
 {
     let Some(mass) = in_range(mass(alloc, eq, kernel, pool, id)?) else {

@@ -44,8 +44,9 @@ fn read_terms(terms: &[Term])
     }
 }
 
-/// Shows a caller's proof that the symbols of a polynomial that is an elementary differential are those of the equation, so that it can be printed. It is read
-/// through for the five entries of its multiindices, and nothing else is done.
+/// Shows a caller's proof that the symbols of a polynomial that is an elementary differential are
+/// those of the equation, so that it can be printed. It is read through for the five entries of its
+/// multiindices, and nothing else is done.
 pub(crate) fn symbols_are_known(
     eq: &Equation,
     kernel: TypeId,
@@ -57,7 +58,8 @@ pub(crate) fn symbols_are_known(
     requires known { id.0 < length pool.now.trees }
     requires types { pool.now.types ≡ eq.now.types }
     requires poly { IsPoly f.now }
-    requires coefficients { HaveSameCoefficients (terms_of f.now.terms) (differential_terms eq.now kernel.0 (tree_at pool.now id.0)) }
+    requires coefficients { HaveSameCoefficients (terms_of f.now.terms)
+        (differential_terms eq.now kernel.0 (tree_at pool.now id.0)) }
     ensures { AllByRecursion (IsTermOver eq.now.types eq.now.parameters) (terms_of f.now.terms) }
 {
     let _ = pool.node(id);

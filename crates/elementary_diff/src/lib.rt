@@ -1,4 +1,5 @@
-//! Symmetry factors and elementary differentials of trees.
+//! Symmetry factors and elementary differentials of trees. They need right sides and trees, and
+//! nothing of the coproducts, from which they stand apart.
 #![tactic(auto)]
 
 mod answer;

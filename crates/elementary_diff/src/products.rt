@@ -27,8 +27,8 @@ fn is_repeated(edges: &[EdgeTo], i: usize) -> bool
     }
 }
 
-/// The elementary differential of a tree at a kernel: the product of what the root makes of the right side and of the differentials above its kernel edges. That of
-/// equal edges is made once.
+/// The elementary differential of a tree at a kernel: the product of what the root makes of the
+/// right side and of the differentials above its kernel edges. That of equal edges is made once.
 pub(crate) fn product(
     alloc: Global,
     eq: &Equation,
@@ -39,8 +39,11 @@ pub(crate) fn product(
     requires equation { IsEquation eq.now }
     requires known { id.0 < length pool.now.trees }
     requires some { 0 < mass_of eq.now.types (right_terms eq.now) kernel.0 (tree_at pool.now id.0) }
-    requires fits { mass_of eq.now.types (right_terms eq.now) kernel.0 (tree_at pool.now id.0) < overflow }
-    ensures value { IfOk result (IsSumWithin (differential_terms eq.now kernel.0 (tree_at pool.now id.0)) (mass_of eq.now.types (right_terms eq.now) kernel.0 (tree_at pool.now id.0))) }
+    requires fits { mass_of eq.now.types (right_terms eq.now) kernel.0 (tree_at pool.now id.0)
+        < overflow }
+    ensures value { IfOk result
+        (IsSumWithin (differential_terms eq.now kernel.0 (tree_at pool.now id.0))
+        (mass_of eq.now.types (right_terms eq.now) kernel.0 (tree_at pool.now id.0))) }
     ensures memory { IsOkUnless result PolyError.Memory }
 {
     let (_, edges) = pool.node(id);

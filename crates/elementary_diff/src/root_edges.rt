@@ -21,7 +21,8 @@ use tree_pool::{EdgeTo, Pool, TreeId};
 fn derivatives(alloc: Global, by: &Symbol, terms: &[Term]) -> Result<Vec<Term>, PolyError>
     requires small { edge_count_of (tree_in (symbol_of by.now)) ≤ MOST_EDGES }
     requires room { HaveRoom (terms_of terms.now) }
-    ensures value { IfOk result (λ v. terms_of v.items ≡ derivatives (symbol_of by.now) (terms_of terms.now)) }
+    ensures value { IfOk result (λ v. terms_of v.items ≡ derivatives (symbol_of by.now)
+        (terms_of terms.now)) }
     ensures memory { IsOkUnless result PolyError.Memory }
 {
     let mut derived = Vec::new(alloc);
@@ -39,7 +40,8 @@ fn edge_derivatives(
     terms: &[Term],
 ) -> Result<Vec<Term>, PolyError>
     requires { HaveRoom (terms_of terms.now) }
-    ensures value { IfOk result (λ v. terms_of v.items ≡ edge_derivatives types.now e.now.kind.0 e.now.p.entries (terms_of terms.now)) }
+    ensures value { IfOk result (λ v. terms_of v.items ≡ edge_derivatives types.now e.now.kind.0
+        e.now.p.entries (terms_of terms.now)) }
     ensures memory { IsOkUnless result PolyError.Memory }
 {
     let Some(entry) = types.list.get(e.kind.0 as usize) else {
@@ -76,8 +78,9 @@ fn noise_free(alloc: Global, terms: Vec<Term>) -> Result<Vec<Term>, PolyError>
     Ok(left)
 }
 
-/// The terms of the right side of a kernel that are left at the root of a tree: the derivatives by the edge types of the root's edges, without those that still
-/// have a noise. Their coefficients are in range.
+/// The terms of the right side of a kernel that are left at the root of a tree: the derivatives by
+/// the edge types of the root's edges, without those that still have a noise. Their coefficients
+/// are in range.
 pub(crate) fn left_at_root(
     alloc: Global,
     eq: &Equation,
@@ -87,7 +90,9 @@ pub(crate) fn left_at_root(
 ) -> Result<Vec<Term>, PolyError>
     requires equation { IsEquation eq.now }
     requires known { id.0 < length pool.now.trees }
-    ensures value { IfOk result (λ v. terms_of v.items ≡ noise_free (by_edges eq.now.types (tree_at pool.now id.0) (right_terms eq.now kernel.0))) }
+    ensures value { IfOk result (λ v. terms_of v.items
+        ≡ noise_free (by_edges eq.now.types (tree_at pool.now id.0)
+        (right_terms eq.now kernel.0))) }
     ensures memory { IsOkUnless result PolyError.Memory }
 {
     let (_, edges) = pool.node(id);

@@ -21,14 +21,17 @@ use std::alloc::Global;
 use symbol_polys::{Poly, PolyError, Term, sum_of_terms};
 use tree_pool::{Pool, TreeId};
 
-// The total derivative in each direction, as often as the multiindex says. Like terms are collected after each.
+// The total derivative in each direction, as often as the multiindex says. Like terms are collected
+// after each.
 fn total_derivatives(alloc: Global, n: &Multi, left: Items<Term>) -> Result<Items<Term>, PolyError>
     requires few { sum n.now.entries ≤ MOST_DECORATIONS }
     requires low { AreLow LARGEST_DERIVATIVE (terms_of left) }
     requires fits { weight (sum n.now.entries) (terms_of left) < overflow }
     ensures monomials { IfOk result (λ ts. AllByRecursion IsMonomial (monomials (terms_of ts))) }
-    ensures coefficients { IfOk result (λ ts. HaveSameCoefficients (terms_of ts) (total_derivatives 0 n.now.entries (terms_of left))) }
-    ensures size { IfOk result (λ ts. size_of (terms_of ts) ≤ weight (sum n.now.entries) (terms_of left)) }
+    ensures coefficients { IfOk result (λ ts. HaveSameCoefficients (terms_of ts)
+        (total_derivatives 0 n.now.entries (terms_of left))) }
+    ensures size { IfOk result (λ ts. size_of (terms_of ts) ≤ weight (sum n.now.entries)
+        (terms_of left)) }
     ensures memory { IsOkUnless result PolyError.Memory }
 {
     let mut terms = left;
@@ -40,8 +43,9 @@ fn total_derivatives(alloc: Global, n: &Multi, left: Items<Term>) -> Result<Item
     Ok(terms)
 }
 
-/// The polynomial at the root of a tree: the derivatives of the right side of a kernel by the edge types of the root's edges, without the terms that still have a
-/// noise, and of these the total derivatives by the root's decoration. Its mass is at most that of the root.
+/// The polynomial at the root of a tree: the derivatives of the right side of a kernel by the edge
+/// types of the root's edges, without the terms that still have a noise, and of these the total
+/// derivatives by the root's decoration. Its mass is at most that of the root.
 pub(crate) fn root_polynomial(
     alloc: Global,
     eq: &Equation,
@@ -51,10 +55,13 @@ pub(crate) fn root_polynomial(
 ) -> Result<Poly, PolyError>
     requires equation { IsEquation eq.now }
     requires known { id.0 < length pool.now.trees }
-    requires fits { root_mass eq.now.types (right_terms eq.now kernel.0) (tree_at pool.now id.0) < overflow }
+    requires fits { root_mass eq.now.types (right_terms eq.now kernel.0) (tree_at pool.now id.0)
+        < overflow }
     ensures poly { IfOk result IsPoly }
-    ensures coefficients { IfOk result (λ p. HaveSameCoefficients (terms_of p.terms) (root_factor eq.now.types (right_terms eq.now kernel.0) (tree_at pool.now id.0))) }
-    ensures mass { IfOk result (λ p. p.mass ≤ℤ pos (root_mass eq.now.types (right_terms eq.now kernel.0) (tree_at pool.now id.0))) }
+    ensures coefficients { IfOk result (λ p. HaveSameCoefficients (terms_of p.terms)
+        (root_factor eq.now.types (right_terms eq.now kernel.0) (tree_at pool.now id.0))) }
+    ensures mass { IfOk result (λ p. p.mass
+        ≤ℤ pos (root_mass eq.now.types (right_terms eq.now kernel.0) (tree_at pool.now id.0))) }
     ensures memory { IsOkUnless result PolyError.Memory }
 {
     let (n, _) = pool.node(id);

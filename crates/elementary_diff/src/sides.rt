@@ -26,7 +26,8 @@ fn factor_product(
     types: &Types,
     factors: &[(TypeId, Multi)],
 ) -> Result<Items<Symbol>, PolyError>
-    ensures value { IfOk result (λ m. map symbol_of m ≡ monomial_product (map (factor_symbol types.now) factors.now) []) }
+    ensures value { IfOk result (λ m. map symbol_of m
+        ≡ monomial_product (map (factor_symbol types.now) factors.now) []) }
     ensures memory { IsOkUnless result PolyError.Memory }
 {
     match factors {
@@ -45,7 +46,9 @@ fn monomial(
     parameters: &[u8],
     factors: &[(TypeId, Multi)],
 ) -> Result<Items<Symbol>, PolyError>
-    ensures value { IfOk result (λ m. map symbol_of m ≡ monomial_product (map parameter parameters.now) (monomial_product (map (factor_symbol types.now) factors.now) [])) }
+    ensures value { IfOk result (λ m. map symbol_of m
+        ≡ monomial_product (map parameter parameters.now)
+        (monomial_product (map (factor_symbol types.now) factors.now) [])) }
     ensures memory { IsOkUnless result PolyError.Memory }
 {
     match parameters {

@@ -19,9 +19,10 @@ fn multiplicity(edges: &[EdgeTo], e: &EdgeTo) -> u128
     edges.iter().filter(|f| **f == *e).count() as u128
 }
 
-/// The symmetry factor of a tree (Bruned, Chandra, Chevyrev, Hairer, without the factorials of node decorations, which are divided powers here): the product, over
-/// the distinct pairs of edge type and subtree at the root, each with its multiplicity b, of the subtree's factor to the power b, times b!. For `[u[xi]*u[xi]]` it
-/// is 2. Takes no memory, and is never refused: it is at most 24!.
+/// The symmetry factor of a tree (Bruned, Chandra, Chevyrev, Hairer, without the factorials of node
+/// decorations, which are divided powers here): the product, over the distinct pairs of edge type
+/// and subtree at the root, each with its multiplicity b, of the subtree's factor to the power b,
+/// times b!. For `[u[xi]*u[xi]]` it is 2. Takes no memory, and is never refused: it is at most 24!.
 pub fn symmetry(pool: &Pool<'_>, id: TreeId) -> u128
     requires { id.0 < length pool.now.trees }
     ensures value { result ≡ symmetry_of (tree_at pool.now id.0) }
@@ -37,8 +38,11 @@ pub fn symmetry(pool: &Pool<'_>, id: TreeId) -> u128
     factor
 }
 
-/// The symmetry factor is the product over the distinct edges of the root, each with its multiplicity b, of the factor of the tree above it to the power b, times
-/// b!.
+/// The symmetry factor is the product over the distinct edges of the root, each with its
+/// multiplicity b, of the factor of the tree above it to the power b, times b!.
 pub fn symmetry_law()
-    ensures { (t : Plain) → symmetry_of t ≡ product_over (λ e. symmetry_of e.child ^ count_of planted_order e (root_edges t) * factorial (count_of planted_order e (root_edges t))) (distinct_by planted_order (root_edges t)) }
+    ensures { (t : Plain) →
+        symmetry_of t ≡ product_over (λ e. symmetry_of e.child ^ count_of planted_order e
+        (root_edges t) * factorial (count_of planted_order e (root_edges t)))
+        (distinct_by planted_order (root_edges t)) }
 {}

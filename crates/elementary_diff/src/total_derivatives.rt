@@ -26,7 +26,8 @@ fn one_more(direction: usize, m: &Multi) -> Multi
     Multi { entries }
 }
 
-// The product of the first symbol with one more derivative, where it is a variable, and the rest, with the coefficient of another term.
+// The product of the first symbol with one more derivative, where it is a variable, and the rest,
+// with the coefficient of another term.
 fn at_first(
     alloc: Global,
     direction: usize,
@@ -37,7 +38,8 @@ fn at_first(
     requires direction { direction < 5 }
     requires first { IsLow most_entry (symbol_of first.now) }
     requires rest { IsMonomial (map symbol_of rest.now) }
-    ensures value { IfOk result (λ v. terms_of v.items ≡ with_coefficient like.now.coefficient (own_places direction (symbol_of first.now) (map symbol_of rest.now))) }
+    ensures value { IfOk result (λ v. terms_of v.items ≡ with_coefficient like.now.coefficient
+        (own_places direction (symbol_of first.now) (map symbol_of rest.now))) }
     ensures memory { IsOkUnless result PolyError.Memory }
 {
     let mut terms = Vec::new(alloc);
@@ -65,7 +67,8 @@ fn put_with(
 ) -> Result<(), PolyError>
     requires s { HasBoundedTree (symbol_of s.now) }
     requires terms { AllByRecursion IsMonomial (monomials (terms_of terms.now)) }
-    ensures items { OnOk result (terms_of products.new.items ≡ terms_of products.old.items ++ map (times_symbol (symbol_of s.now)) (terms_of terms.now)) }
+    ensures items { OnOk result (terms_of products.new.items ≡ terms_of products.old.items
+        ++ map (times_symbol (symbol_of s.now)) (terms_of terms.now)) }
     ensures memory { IsOkUnless result PolyError.Memory }
 {
     for term in terms {
@@ -79,7 +82,8 @@ fn put_with(
     Ok(())
 }
 
-// The terms with the coefficient of another in which one variable has one more derivative, for each of the variables.
+// The terms with the coefficient of another in which one variable has one more derivative, for each
+// of the variables.
 fn further(
     alloc: Global,
     direction: usize,
@@ -88,7 +92,8 @@ fn further(
 ) -> Result<Vec<Term>, PolyError>
     requires direction { direction < 5 }
     requires low { IsLowMonomial most_entry (map symbol_of symbols.now) }
-    ensures value { IfOk result (λ v. terms_of v.items ≡ with_coefficient like.now.coefficient (further direction (map symbol_of symbols.now))) }
+    ensures value { IfOk result (λ v. terms_of v.items ≡ with_coefficient like.now.coefficient
+        (further direction (map symbol_of symbols.now))) }
     ensures memory { IsOkUnless result PolyError.Memory }
 {
     match symbols {
@@ -119,7 +124,8 @@ pub(crate) fn total_derivative(
 ) -> Result<Vec<Term>, PolyError>
     requires direction { direction < 5 }
     requires low { AreLow most_entry (terms_of terms.now) }
-    ensures value { IfOk result (λ v. terms_of v.items ≡ total_derivative direction (terms_of terms.now)) }
+    ensures value { IfOk result (λ v. terms_of v.items ≡ total_derivative direction
+        (terms_of terms.now)) }
     ensures memory { IsOkUnless result PolyError.Memory }
 {
     let mut derived = Vec::new(alloc);
@@ -141,8 +147,11 @@ pub(crate) fn collected_derivative(
     requires direction { direction < 5 }
     requires low { AreLow most_entry (terms_of terms.now) }
     requires fits { size_of (total_derivative direction (terms_of terms.now)) < overflow }
-    ensures poly { IfOk result (λ ts. IsPolynomial (pos (size_of (total_derivative direction (terms_of terms.now)))) (terms_of ts)) }
-    ensures coefficients { IfOk result (λ ts. HaveSameCoefficients (terms_of ts) (total_derivative direction (terms_of terms.now))) }
+    ensures poly { IfOk result
+        (λ ts. IsPolynomial (pos (size_of (total_derivative direction (terms_of terms.now))))
+        (terms_of ts)) }
+    ensures coefficients { IfOk result (λ ts. HaveSameCoefficients (terms_of ts)
+        (total_derivative direction (terms_of terms.now))) }
     ensures memory { IsOkUnless result PolyError.Memory }
 {
     let derived = total_derivative(alloc, direction, terms)?;

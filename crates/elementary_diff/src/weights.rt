@@ -41,7 +41,8 @@ pub(crate) fn power(base: Saturated, exponent: u32) -> Saturated
 
 // The absolute coefficient of a term times the number of its variables to a power.
 fn term_weight(exponent: u32, term: &Term) -> Saturated
-    ensures { result ≡ saturated (unsigned_abs term.now.coefficient * variable_count (map symbol_of term.now.symbols) ^ exponent) }
+    ensures { result ≡ saturated (unsigned_abs term.now.coefficient
+        * variable_count (map symbol_of term.now.symbols) ^ exponent) }
 {
     let count = Saturated::of(variable_count(term.symbols.as_slice()) as u128);
     Saturated::of(term.coefficient.unsigned_abs()).times(power(count, exponent))
@@ -66,7 +67,9 @@ fn root_mass(
 ) -> Result<Saturated, PolyError>
     requires equation { IsEquation eq.now }
     requires known { id.0 < length pool.now.trees }
-    ensures value { IfOk result (λ m. m ≡ saturated (root_mass eq.now.types (right_terms eq.now kernel.0) (tree_at pool.now id.0))) }
+    ensures value { IfOk result (λ m. m
+        ≡ saturated (root_mass eq.now.types (right_terms eq.now kernel.0)
+        (tree_at pool.now id.0))) }
     ensures memory { IsOkUnless result PolyError.Memory }
 {
     let (n, _) = pool.node(id);
@@ -84,8 +87,8 @@ pub(crate) fn is_kernel(types: &Types, kind: TypeId) -> bool
     }
 }
 
-/// The mass of the elementary differential of a tree at a kernel: the product of the masses at its root and at the nodes above kernel edges, of which one that is 0
-/// makes it 0.
+/// The mass of the elementary differential of a tree at a kernel: the product of the masses at its
+/// root and at the nodes above kernel edges, of which one that is 0 makes it 0.
 pub(crate) fn mass(
     alloc: Global,
     eq: &Equation,
@@ -95,7 +98,8 @@ pub(crate) fn mass(
 ) -> Result<Saturated, PolyError>
     requires equation { IsEquation eq.now }
     requires known { id.0 < length pool.now.trees }
-    ensures value { IfOk result (λ m. m ≡ saturated (mass_of eq.now.types (right_terms eq.now) kernel.0 (tree_at pool.now id.0))) }
+    ensures value { IfOk result (λ m. m
+        ≡ saturated (mass_of eq.now.types (right_terms eq.now) kernel.0 (tree_at pool.now id.0))) }
     ensures memory { IsOkUnless result PolyError.Memory }
 {
     let (_, edges) = pool.node(id);

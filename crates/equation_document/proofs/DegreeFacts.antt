@@ -92,7 +92,9 @@ chosen : {A : Type 0} (P : A → Type 0) (c : Bool) (a b : A) → P a → P b �
 chosen P true a b p q = p
 chosen P false a b p q = q
 
-fraction_read : (has_k : Bool) (first : Part) (second : Option Part) → 0 < first.fraction.den → IsSecondAbove second → IsFractionRead (first_large first second) (fraction_with has_k first second)
+fraction_read : (has_k : Bool) (first : Part) (second : Option Part) → 0 < first.fraction.den →
+    IsSecondAbove second →
+    IsFractionRead (first_large first second) (fraction_with has_k first second)
 fraction_read has_k first None above above_second =
     let large = first_large first None in
     chosen (IsFractionRead large) (beq first.has_k has_k) first.fraction nothing

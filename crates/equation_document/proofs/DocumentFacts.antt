@@ -70,7 +70,9 @@ number_above at d n h =
     let z = bind_ok (of_kind (Item Scaling at) (as_integer d)) _ n h in
     whole_above z.0 n (is_value (Item Scaling at) (whole z.0) n z.2)
 
-numbers_above : (at : ℕ) (found : List ℕ) (ds : Items) (r : List ℕ) → AllByRecursion (λ s. 0 < s) found → numbers_from at found ds ≡ Ok r → AllByRecursion (λ s. 0 < s) r × (length r ≡ length found + count ds)
+numbers_above : (at : ℕ) (found : List ℕ) (ds : Items) (r : List ℕ) →
+    AllByRecursion (λ s. 0 < s) found → numbers_from at found ds ≡ Ok r →
+    AllByRecursion (λ s. 0 < s) r × (length r ≡ length found + count ds)
 unfolding numbers_from
 numbers_above at found no_items r so h = subst (λ x. AllByRecursion (λ s. 0 < s) x × (length x ≡ length found + 0)) (same_value found r h) (so, omega arith)
 numbers_above at found (item d ds) r so h =
@@ -185,10 +187,13 @@ pub record AreMore {E : Type 0} (name : E → List ℕ) (P : E → Type 0) (seen
   pub all : AllByRecursion P more
   pub counted : length more ≡ n
 
-none_more : {E : Type 0} (name : E → List ℕ) (P : E → Type 0) (seen : List (List ℕ)) (found : List E) → AreNames seen → AreMore name P seen found 0 (seen, found)
+none_more : {E : Type 0} (name : E → List ℕ) (P : E → Type 0) (seen : List (List ℕ)) (found : List E) →
+    AreNames seen → AreMore name P seen found 0 (seen, found)
 none_more name P seen found are = record { names = are; more = []; named = sym (append-nil seen); entries = sym (append-nil found); all = tt; counted = refl }
 
-one_more : {E : Type 0} (name : E → List ℕ) (P : E → Type 0) (seen : List (List ℕ)) (found : List E) (n : ℕ) (r : List (List ℕ) × List E) (x : E) → P x → AreMore name P (seen ++ name x ∷ []) (found ++ x ∷ []) n r → AreMore name P seen found (1 + n) r
+one_more : {E : Type 0} (name : E → List ℕ) (P : E → Type 0) (seen : List (List ℕ)) (found : List E) (n : ℕ) (r : List (List ℕ) × List E) (x : E) →
+    P x → AreMore name P (seen ++ name x ∷ []) (found ++ x ∷ []) n r →
+    AreMore name P seen found (1 + n) r
 one_more name P seen found n r x p m = record {
   names = m.names;
   more = x ∷ m.more;
@@ -207,7 +212,9 @@ noise_name n = n.name
 abbrev unknown_name : UnknownEntry → List ℕ
 unknown_name u = u.name
 
-noises_read : (at : ℕ) (seen : List (List ℕ)) (found : List NoiseEntry) (ds : Items) (r : List (List ℕ) × List NoiseEntry) → AreNames seen → noises_from at seen found ds ≡ Ok r → AreMore noise_name IsNoiseKept seen found (count ds) r
+noises_read : (at : ℕ) (seen : List (List ℕ)) (found : List NoiseEntry) (ds : Items) (r : List (List ℕ) × List NoiseEntry) →
+    AreNames seen → noises_from at seen found ds ≡ Ok r →
+    AreMore noise_name IsNoiseKept seen found (count ds) r
 unfolding noises_from
 noises_read at seen found no_items r are h = subst (AreMore noise_name IsNoiseKept seen found 0) (same_value (seen, found) r h) (none_more noise_name IsNoiseKept seen found are)
 noises_read at seen found (item d ds) r are h =
@@ -216,7 +223,8 @@ noises_read at seen found (item d ds) r are h =
     one_more noise_name IsNoiseKept seen found (count ds) r n.0 (is.group, is.degree)
     (noises_read (at + 1) (seen ++ n.0.name ∷ []) (found ++ n.0 ∷ []) ds r (more_names seen n.0.name are is.name) n.2)
 
-noises_of_read : (seen : List (List ℕ)) (d : Option Data) (r : List (List ℕ) × List NoiseEntry) → AreNames seen → noises_of seen d ≡ Ok r → (n : ℕ) × AreMore noise_name IsNoiseKept seen [] n r
+noises_of_read : (seen : List (List ℕ)) (d : Option Data) (r : List (List ℕ) × List NoiseEntry) →
+    AreNames seen → noises_of seen d ≡ Ok r → (n : ℕ) × AreMore noise_name IsNoiseKept seen [] n r
 unfolding noises_of
 noises_of_read seen None r are h = (0, subst (AreMore noise_name IsNoiseKept seen [] 0) (same_value (seen, []) r h) (none_more noise_name IsNoiseKept seen [] are))
 noises_of_read seen (Some d) r are h =
@@ -257,7 +265,8 @@ moments_read e version (Some d) r h =
     let n = bind_ok (of_value e (up_to 20 (natural z.0))) _ r z.2 in
     subst IsMoments (same_value (Some n.0) r n.2) (up_to_most 20 (natural z.0) n.0 (is_value e (up_to 20 (natural z.0)) n.0 n.1))
 
-unknown_read : (version : FileVersion) (at : ℕ) (seen : List (List ℕ)) (d : Data) (u : UnknownEntry) → unknown_of version at seen d ≡ Ok u → IsNew seen u.name × IsUnknownRead u
+unknown_read : (version : FileVersion) (at : ℕ) (seen : List (List ℕ)) (d : Data) (u : UnknownEntry) →
+    unknown_of version at seen d ≡ Ok u → IsNew seen u.name × IsUnknownRead u
 unfolding unknown_of
 unknown_read version at seen d u h =
     let ms = bind_ok (table_of Unknown keys.OfUnknown at d) _ u h in
@@ -271,7 +280,9 @@ unknown_read version at seen d u h =
     let is : IsUnknownRead made = record { degree = d_read.0; positive = d_read.1; regularity = r_read.0; standard = r_read.1; moments = moments_read (Part Unknown at fields.Moments) version (get_member (codes "moments") ms.0) moments.0 moments.1 } in
     subst (λ x. IsNew seen x.name × IsUnknownRead x) (same_value made u moments.2) (name_new Unknown at seen ms.0 name.0 name.1, is)
 
-unknowns_read : (version : FileVersion) (at : ℕ) (seen : List (List ℕ)) (found : List UnknownEntry) (ds : Items) (r : List (List ℕ) × List UnknownEntry) → AreNames seen → unknowns_from version at seen found ds ≡ Ok r → AreMore unknown_name IsUnknownRead seen found (count ds) r
+unknowns_read : (version : FileVersion) (at : ℕ) (seen : List (List ℕ)) (found : List UnknownEntry) (ds : Items) (r : List (List ℕ) × List UnknownEntry) →
+    AreNames seen → unknowns_from version at seen found ds ≡ Ok r →
+    AreMore unknown_name IsUnknownRead seen found (count ds) r
 unfolding unknowns_from
 unknowns_read version at seen found no_items r are h = subst (AreMore unknown_name IsUnknownRead seen found 0) (same_value (seen, found) r h) (none_more unknown_name IsUnknownRead seen found are)
 unknowns_read version at seen found (item d ds) r are h =
@@ -287,13 +298,17 @@ both false b h = absurd (true≢false (sym h))
 at_most_one : (n : ℕ) → nat_le n 1 ≡ true → n ≤ 1
 at_most_one n h = grind (arith, nat_tests)
 
-factors_read : (names : Names) (dims : ℕ) (fs : List WrittenFactor) → AllByRecursion (IsFactorWritten dims) fs → list_all (is_known names) fs ≡ true → AllByRecursion (IsFactorRead names dims) fs
+factors_read : (names : Names) (dims : ℕ) (fs : List WrittenFactor) →
+    AllByRecursion (IsFactorWritten dims) fs → list_all (is_known names) fs ≡ true →
+    AllByRecursion (IsFactorRead names dims) fs
 factors_read names dims [] h k = tt
 factors_read names dims (f ∷ fs) h k =
     let b = both (is_known names f) (list_all (is_known names) fs) k in
     (record { known = b.0; entries = h.0.entries; power = h.0.power }, factors_read names dims fs h.1 b.1)
 
-terms_read : (names : Names) (dims : ℕ) (ts : List WrittenTerm) → AllByRecursion (IsTermWritten dims) ts → are_known names ts ≡ true → have_one_noise names ts ≡ true → AllByRecursion (IsTermRead names dims) ts
+terms_read : (names : Names) (dims : ℕ) (ts : List WrittenTerm) →
+    AllByRecursion (IsTermWritten dims) ts → are_known names ts ≡ true →
+    have_one_noise names ts ≡ true → AllByRecursion (IsTermRead names dims) ts
 terms_read names dims [] h k one = tt
 terms_read names dims (t ∷ ts) h k one =
     let b = both (list_all (is_known names) t.factors) (are_known names ts) k in
@@ -302,7 +317,9 @@ terms_read names dims (t ∷ ts) h k one =
       terms_read names dims ts h.1 b.1 c.1,
     )
 
-known_read : (e : Entry) (names : Names) (dims : ℕ) (ts r : List WrittenTerm) → AllByRecursion (IsTermWritten dims) ts → known_terms e names ts ≡ Ok r → AllByRecursion (IsTermRead names dims) r
+known_read : (e : Entry) (names : Names) (dims : ℕ) (ts r : List WrittenTerm) →
+    AllByRecursion (IsTermWritten dims) ts → known_terms e names ts ≡ Ok r →
+    AllByRecursion (IsTermRead names dims) r
 known_read e names dims ts r so h =
     elim (side_of (are_known names ts) (if have_one_noise names ts then Ok ts else Err (Malformed e reasons.Noise)) (Err (Malformed e reasons.Polynomial)) (Ok r) h) [
       | inl k ↦
@@ -311,7 +328,9 @@ known_read e names dims ts r so h =
       | inr k ↦ err_ok (Malformed e reasons.Polynomial) r k.1
     ]
 
-terms_of_read : (e : Entry) (names : Names) (dims : ℕ) (o : Option (List WrittenTerm)) (r : List WrittenTerm) → ((ts : List WrittenTerm) → o ≡ Some ts → AllByRecursion (IsTermWritten dims) ts) → terms_of e names o ≡ Ok r → AllByRecursion (IsTermRead names dims) r
+terms_of_read : (e : Entry) (names : Names) (dims : ℕ) (o : Option (List WrittenTerm)) (r : List WrittenTerm) →
+    ((ts : List WrittenTerm) → o ≡ Some ts → AllByRecursion (IsTermWritten dims) ts) →
+    terms_of e names o ≡ Ok r → AllByRecursion (IsTermRead names dims) r
 terms_of_read e names dims None r so h = err_ok (Malformed e reasons.Polynomial) r h
 terms_of_read e names dims (Some ts) r so h = known_read e names dims ts r (so ts refl) h
 
@@ -322,7 +341,10 @@ right_read names dims at d r h =
     let t = bind_ok (text_of (Part Unknown at fields.Right) (codes "right") ms.0) _ r ms.2 in
     terms_of_read (Part Unknown at fields.Right) names dims (right_side dims t.0) r (λ ts e. right_side_written dims t.0 ts e) t.2
 
-rights_read : (names : Names) (dims at : ℕ) (found : List (List WrittenTerm)) (ds : Items) (r : List (List WrittenTerm)) → AllByRecursion (AllByRecursion (IsTermRead names dims)) found → rights_from names dims at found ds ≡ Ok r → AllByRecursion (AllByRecursion (IsTermRead names dims)) r × (length r ≡ length found + count ds)
+rights_read : (names : Names) (dims at : ℕ) (found : List (List WrittenTerm)) (ds : Items) (r : List (List WrittenTerm)) →
+    AllByRecursion (AllByRecursion (IsTermRead names dims)) found →
+    rights_from names dims at found ds ≡ Ok r →
+    AllByRecursion (AllByRecursion (IsTermRead names dims)) r × (length r ≡ length found + count ds)
 unfolding rights_from
 rights_read names dims at found no_items r so h =
     subst (λ x. AllByRecursion (AllByRecursion (IsTermRead names dims)) x × (length x ≡ length found + 0)) (same_value found r h) (so, omega arith)
@@ -332,13 +354,16 @@ rights_read names dims at found (item d ds) r so h =
     (rest.0, omega (arith, rest.1, length-append found (t.0 ∷ [])))
 
 -- the names of parameters, of noises and of unknowns, one after the other
-in_three : (all first second : List (List ℕ)) (middle last : List (List ℕ)) → second ≡ first ++ middle → all ≡ second ++ last → all ≡ take (length first) all ++ (middle ++ last)
+in_three : (all first second : List (List ℕ)) (middle last : List (List ℕ)) →
+    second ≡ first ++ middle → all ≡ second ++ last →
+    all ≡ take (length first) all ++ (middle ++ last)
 in_three all first second middle last s a =
     let whole : all ≡ first ++ (middle ++ last) = a ∙ ap (λ x. x ++ last) s ∙ append_assoc first middle last in
     let front : take (length first) all ≡ first = ap (take (length first)) whole ∙ take-append_seam first (middle ++ last) in
     whole ∙ ap (λ x. x ++ (middle ++ last)) (sym front)
 
-directions_read : (version : FileVersion) (ms : Members) (r : List ℕ × List ℕ) → directions_of version ms ≡ Ok r → (0 < length r.0) × AllByRecursion (λ s. 0 < s) r.0
+directions_read : (version : FileVersion) (ms : Members) (r : List ℕ × List ℕ) →
+    directions_of version ms ≡ Ok r → (0 < length r.0) × AllByRecursion (λ s. 0 < s) r.0
 unfolding directions_of
 directions_read version ms r h =
     let b1 = bind_ok (list_of Scaling (codes "scaling") ms) _ r h in
@@ -348,7 +373,10 @@ directions_read version ms r h =
     let some = list_counted Scaling (codes "scaling") ms b1.0 b1.1 in
     subst (λ x. (0 < length x.0) × AllByRecursion (λ s. 0 < s) x.0) (same_value (b2.0, b3.0) r b3.2) (omega (arith, numbers.1, some), numbers.0)
 
-part_read : (version : FileVersion) (directions : List ℕ × List ℕ) (parameters : List (List ℕ)) (noises : List (List ℕ) × List NoiseEntry) (ds : Items) (n : ℕ) (doc : Document) → 0 < length directions.0 → AllByRecursion (λ s. 0 < s) directions.0 → 0 < count ds → AreMore noise_name IsNoiseKept parameters [] n noises → unknown_part version directions (length parameters) noises ds ≡ Ok doc → IsRead doc
+part_read : (version : FileVersion) (directions : List ℕ × List ℕ) (parameters : List (List ℕ)) (noises : List (List ℕ) × List NoiseEntry) (ds : Items) (n : ℕ) (doc : Document) →
+    0 < length directions.0 → AllByRecursion (λ s. 0 < s) directions.0 → 0 < count ds →
+    AreMore noise_name IsNoiseKept parameters [] n noises →
+    unknown_part version directions (length parameters) noises ds ≡ Ok doc → IsRead doc
 unfolding unknown_part
 part_read version directions parameters noises ds n doc dims above some ns h =
     let u = bind_ok (unknowns_from version 1 noises.0 [] ds) _ doc h in

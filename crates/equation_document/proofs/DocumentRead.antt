@@ -1,10 +1,15 @@
 -- What is true of all that a table holds, where it has no fault.
 --   IsFractionRead f == the denominator of f is not 0
---   IsDegreeRead w == so are both of w; and where w has no number past 1,000,000, so have none its fractions
---   IsFactorRead names dims f == the name of f is known, its derivative has no entry or one for each dimension, its power is not 0
---   IsTermRead names dims t == so is each factor of t, the denominator of its coefficient is not 0, and t has at most one noise
---   IsRead doc == the scaling is not empty and has no 0; the names are names, all different: parameters, noises, unknowns; groups are names;
---     degrees are read; kernel degrees are above 0 and have, as the regularities, no k part; moment numbers are at most 20; there is an unknown, and a right side for each, of terms that are read
+--   IsDegreeRead w == so are both of w; and where w has no number past 1,000,000, so have none its
+--       fractions
+--   IsFactorRead names dims f == the name of f is known, its derivative has no entry or one for
+--       each dimension, its power is not 0
+--   IsTermRead names dims t == so is each factor of t, the denominator of its coefficient is not 0,
+--       and t has at most one noise
+--   IsRead doc == the scaling is not empty and has no 0; the names are names, all different:
+--       parameters, noises, unknowns; groups are names; degrees are read; kernel degrees are above
+--       0 and have, as the regularities, no k part; moment numbers are at most 20; there is an
+--       unknown, and a right side for each, of terms that are read
 use Rattle.std.specs.Prelude.{ℕ, ◌≡◌, ◌≤◌, ◌<◌, ◌+◌, ◌⊎◌, true, ◌++◌, length, map, take, None}
 use Rattle.std.specs.List.{AllByRecursion}
 use Rattle.degree_numbers.specs.DegreeText.{Written}

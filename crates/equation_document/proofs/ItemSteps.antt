@@ -21,7 +21,8 @@ pub items_over : (vs : List Value) (i : ℕ) → length vs ≤ i → items_view 
 items_over vs i le = ap items_view (drop_of_length-le vs le)
 
 -- a refusal of a part is one of the whole
-pub fails_too : {A B : Type 0} (e : ReadError) (part : Result A Fault) (whole : Result B Fault) → Fails e part → ((f : Fault) → part ≡ Err f → whole ≡ Err f) → Fails e whole
+pub fails_too : {A B : Type 0} (e : ReadError) (part : Result A Fault) (whole : Result B Fault) →
+    Fails e part → ((f : Fault) → part ≡ Err f → whole ≡ Err f) → Fails e whole
 fails_too errors.Memory part whole h on = tt
 fails_too (errors.Wrong f) part whole h on = on f h
 

@@ -1,4 +1,5 @@
--- The least common denominator, found by divisibility, is the least number that clears all fractions.
+-- The least common denominator, found by divisibility, is the least number that clears all
+-- fractions.
 use Rattle.std.proofs.Common.{◌≡◌, ℕ, ◌+◌, ◌-◌, ◌*◌, ◌%◌, ◌<◌, ◌≤◌, ◌==◌, Bool, true, false, true≢false, not, nat_lt, ◌&&◌, List, [], ◌∷◌, ◌++◌, map, length, get_or, take, refl, sym, ap, subst, ◌∙◌, arith}
 use Rattle.std.specs.Int.{◌∣◌}
 use Rattle.std.specs.List.{prefix_len, range_with_len}
@@ -74,7 +75,8 @@ none_failing p m past =
     omega (arith, not_before, len, le)
 
 -- where one number clears all and divides all that do, it is the least
-exact_within : (m n : ℕ) (fs : List WrittenFraction) → 0 < n → n ≤ m → ClearsAll n (map plain fs) → ((x : ℕ) → ClearsAll x (map plain fs) → n ∣ x) → n ≡ least_within m fs
+exact_within : (m n : ℕ) (fs : List WrittenFraction) → 0 < n → n ≤ m → ClearsAll n (map plain fs) →
+    ((x : ℕ) → ClearsAll x (map plain fs) → n ∣ x) → n ≡ least_within m fs
 exact_within m n fs lt le is least =
     first_failing (λ l. not (clears_all l fs)) m n lt le (ap not (cleared n fs is)) (λ x above h. le_of_dvd above (least x (clear x fs (not_passed _ h))))
 
@@ -82,7 +84,9 @@ past_within : (m : ℕ) (fs : List WrittenFraction) → ((x : ℕ) → 0 < x →
 past_within m fs past = none_failing (λ l. not (clears_all l fs)) m (λ x above h. past x above (clear x fs (not_passed _ h)))
 
 -- with m for the number below the greatest one
-within : (m n : ℕ) (fs : List WrittenFraction) → 0 < n → n ≤ m + 1 → (n < m + 1 → IsLeastCommon n (map plain fs)) → (m + 1 ≤ n → (x : ℕ) → 0 < x → ClearsAll x (map plain fs) → m + 1 ≤ x) → n ≡ least_within m fs
+within : (m n : ℕ) (fs : List WrittenFraction) → 0 < n → n ≤ m + 1 →
+    (n < m + 1 → IsLeastCommon n (map plain fs)) →
+    (m + 1 ≤ n → (x : ℕ) → 0 < x → ClearsAll x (map plain fs) → m + 1 ≤ x) → n ≡ least_within m fs
 within m n fs lt le exact past =
     elim (nat_lt n (m + 1)) as (λ b. nat_lt n (m + 1) ≡ b → n ≡ least_within m fs) [
       | true ↦ λ e. let h : n < m + 1 = below _ _ e in exact_within m n fs lt (omega (arith, h)) (exact h).clears (exact h).least

@@ -38,7 +38,8 @@ pub same_value : {A : Type 0} (a b : A) → ◌≡◌ {A = Result A Fault} (Ok a
 unfolding or_else
 same_value a b h = ap (or_else a) h
 
-pub noises_counted : (at : ℕ) (seen : List (List ℕ)) (found : List NoiseEntry) (ds : Items) (r : List (List ℕ) × List NoiseEntry) → noises_from at seen found ds ≡ Ok r → length r.0 + length found ≡ length seen + length r.1
+pub noises_counted : (at : ℕ) (seen : List (List ℕ)) (found : List NoiseEntry) (ds : Items) (r : List (List ℕ) × List NoiseEntry) →
+    noises_from at seen found ds ≡ Ok r → length r.0 + length found ≡ length seen + length r.1
 unfolding noises_from
 noises_counted at seen found no_items r h = let e = same_value (seen, found) r h in subst (λ x. length x.0 + length found ≡ length seen + length x.1) e refl
 noises_counted at seen found (item d ds) r h =
@@ -46,7 +47,9 @@ noises_counted at seen found (item d ds) r h =
     let rest = noises_counted (at + 1) (seen ++ b.0.name ∷ []) (found ++ b.0 ∷ []) ds r b.2 in
     omega (arith, rest, length-append seen (b.0.name ∷ []), length-append found (b.0 ∷ []))
 
-pub unknowns_counted : (version : FileVersion) (at : ℕ) (seen : List (List ℕ)) (found : List UnknownEntry) (ds : Items) (r : List (List ℕ) × List UnknownEntry) → unknowns_from version at seen found ds ≡ Ok r → length r.0 + length found ≡ length seen + length r.1
+pub unknowns_counted : (version : FileVersion) (at : ℕ) (seen : List (List ℕ)) (found : List UnknownEntry) (ds : Items) (r : List (List ℕ) × List UnknownEntry) →
+    unknowns_from version at seen found ds ≡ Ok r →
+    length r.0 + length found ≡ length seen + length r.1
 unfolding unknowns_from
 unknowns_counted version at seen found no_items r h = let e = same_value (seen, found) r h in subst (λ x. length x.0 + length found ≡ length seen + length x.1) e refl
 unknowns_counted version at seen found (item d ds) r h =
@@ -54,14 +57,17 @@ unknowns_counted version at seen found (item d ds) r h =
     let rest = unknowns_counted version (at + 1) (seen ++ b.0.name ∷ []) (found ++ b.0 ∷ []) ds r b.2 in
     omega (arith, rest, length-append seen (b.0.name ∷ []), length-append found (b.0 ∷ []))
 
-pub noises_of_counted : (seen : List (List ℕ)) (d : Option Data) (r : List (List ℕ) × List NoiseEntry) → noises_of seen d ≡ Ok r → length r.0 ≡ length seen + length r.1
+pub noises_of_counted : (seen : List (List ℕ)) (d : Option Data) (r : List (List ℕ) × List NoiseEntry) →
+    noises_of seen d ≡ Ok r → length r.0 ≡ length seen + length r.1
 unfolding noises_of
 noises_of_counted seen None r h = let e = same_value (seen, []) r h in subst (λ x. length x.0 ≡ length seen + length x.1) e (omega arith)
 noises_of_counted seen (Some d) r h =
     let b = bind_ok (of_kind (Whole Noise) (as_array d)) (noises_from 1 seen []) r h in
     omega (arith, noises_counted 1 seen [] b.0 r b.2)
 
-part_counted : (version : FileVersion) (directions : List ℕ × List ℕ) (n : ℕ) (noises : List (List ℕ) × List NoiseEntry) (ds : Items) (doc : Document) → length noises.0 ≡ n + length noises.1 → unknown_part version directions n noises ds ≡ Ok doc → AreCounted doc
+part_counted : (version : FileVersion) (directions : List ℕ × List ℕ) (n : ℕ) (noises : List (List ℕ) × List NoiseEntry) (ds : Items) (doc : Document) →
+    length noises.0 ≡ n + length noises.1 → unknown_part version directions n noises ds ≡ Ok doc →
+    AreCounted doc
 unfolding unknown_part
 part_counted version directions n noises ds doc c h =
     let u = bind_ok (unknowns_from version 1 noises.0 [] ds) _ doc h in
@@ -108,7 +114,8 @@ of_table : (table : Option Members) (doc : Document) → table_document table �
 of_table None doc h = err_ok faults.NotToml doc h
 of_table (Some ms) doc h = (ms, h)
 
-read_as : (long utf8 : Bool) (read : Result Document Fault) (f g : Fault) (doc : Document) → (if long then Err f else if utf8 then read else Err g) ≡ Ok doc → read ≡ Ok doc
+read_as : (long utf8 : Bool) (read : Result Document Fault) (f g : Fault) (doc : Document) →
+    (if long then Err f else if utf8 then read else Err g) ≡ Ok doc → read ≡ Ok doc
 read_as true utf8 read f g doc h = err_ok f doc h
 read_as false true read f g doc h = h
 read_as false false read f g doc h = err_ok g doc h

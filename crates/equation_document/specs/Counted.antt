@@ -1,5 +1,6 @@
 -- How the names of a document count its noises and unknowns.
---   AreCounted doc == the names are the parameters', then one for each noise, then one for each unknown
+--   AreCounted doc == the names are the parameters', then one for each noise, then one for each
+--       unknown
 use Rattle.std.specs.Prelude.{◌≡◌, ◌+◌, length}
 use Rattle.equation_document.specs.declared.document.Document.{Document}
 

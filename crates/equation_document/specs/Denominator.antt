@@ -2,7 +2,8 @@
 --   clears l f == l times f is whole
 --   clears_all l fs == l times each of fs is whole
 --   least_within m fs == the least number from 1 to m that clears all of fs; m + 1 where none does
---   least_common fs == the least number from 1 on that clears all of fs; 2^63-1 where no smaller number does
+--   least_common fs == the least number from 1 on that clears all of fs; 2^63-1 where no smaller
+--       number does
 use Rattle.std.specs.Prelude.{ℕ, ◌+◌, ◌-◌, ◌*◌, ◌%◌, ◌==◌, Bool, not, List}
 use Rattle.std.specs.List.{prefix_len, list_all, range_with_len}
 use Rattle.text_parts.specs.Reading.{most}

@@ -1,7 +1,8 @@
 -- What a file holds.
 --   accepted ms == what the table of a file holds, where it passes no limit; else its first fault
 --   table_document table == the same, where `toml` reads a table
---   reading bytes == what at most 65,536 bytes of UTF-8 hold, which `toml` reads as a table; else the first fault
+--   reading bytes == what at most 65,536 bytes (`most_bytes`) of UTF-8 hold, which `toml`
+--       reads as a table; else the first fault
 use Rattle.std.specs.Prelude.{ℕ, ◌+◌, nat_lt, List, length, if◌then◌else◌, Option, Some, None, Result, Ok, Err}
 use Rattle.std.specs.Str.{is_utf8}
 use Rattle.toml.specs.Data.{Members}

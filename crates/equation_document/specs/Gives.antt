@@ -1,5 +1,7 @@
 -- How the answer of a function that allocates stands to a reading.
---   Gives view result read == the result, seen by view, is what the reading gives: a fault exactly where it gives this fault; want of memory is free
+--   Fails e read == the error e is the fault that is read; want of memory is free
+--   Gives view result read == the result, seen by view, is what the reading gives: a fault exactly
+--       where it gives this fault; want of memory is free
 use Rattle.std.specs.Prelude.{◌≡◌, ⊤, Result, Ok, Err}
 use Rattle.equation_document.specs.declared.fault.Fault.{Fault}
 use Rattle.equation_document.specs.declared.fault.ReadError.{ReadError}

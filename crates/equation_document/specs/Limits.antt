@@ -1,12 +1,30 @@
--- The limits of a file, in the order in which they are sought. A limit that is passed is seen by the number that passes it.
+-- The limits of a file, in the order in which they are sought. A limit that is passed is seen by
+-- the number that passes it.
 --   limit which found == the fault of `which`, where a number was found
---   file_number doc == the first written number past 1,000,000: in noises' degrees, then in degrees and regularities, then in right sides
---   file_size doc == the size of the first degree or regularity past 20, of its plain part before that of k
+--   noise_number n, unknown_number u == the first number past 1,000,000 (`largest_number`) in the
+--       degree of a noise; in the degree and the regularity of an unknown
+--   file_number doc == the first written number past 1,000,000: in noises' degrees, then in degrees
+--       and regularities, then in right sides
+--   noise_size n, unknown_size u == the size of the first degree or regularity of theirs that is
+--       past 20
+--   file_size doc == the size of the first degree or regularity past 20, of its plain part before
+--       that of k
+--   with_fractions fs w == the fractions fs and behind them both fractions of w
+--   noise_fractions fs n, unknown_fractions fs u == the same with those of a noise; of an unknown,
+--       its degree before its regularity
 --   degree_fractions doc == the fractions of all degrees and regularities
 --   units_of doc == their least common denominator
+--   with_coefficients fs ts == the fractions fs and behind them the coefficients of the terms ts
 --   coefficients doc == all written coefficients
 --   denominator_of doc == their least common denominator
---   limits_of doc == the first limit that doc passes
+--   right_terms ts == the number of terms of a right side, where it is past its limit
+--   counts_of doc == the first limit that is passed on how much there is: directions and their
+--       scaling, parameters, noises, unknowns
+--   numbers_of doc == the first that is passed on numbers, on degrees and on their least common
+--       denominator
+--   rights_of doc == the first that is passed on right sides: their terms, factors and derivatives,
+--       and the least common denominator of their coefficients
+--   limits_of doc == the first limit that doc passes, in this order
 use Rattle.std.specs.Prelude.{ℕ, List, [], ◌∷◌, ◌++◌, length, fold, Option, Some, None, Result, Ok, Err, ⊤}
 use Rattle.std.specs.Option.{option_or}
 use Rattle.degree_numbers.specs.DegreeText.{Written}
@@ -37,7 +55,8 @@ abbrev pub unknown_number : UnknownEntry → Option ℕ
 unknown_number u = option_or u.degree.large u.regularity.large
 
 abbrev pub file_number : Document → Option ℕ
-file_number doc = option_or (first_of noise_number doc.noises) (option_or (first_of unknown_number doc.unknowns) (first_of (first_of term_number) doc.rights))
+file_number doc = option_or (first_of noise_number doc.noises)
+    (option_or (first_of unknown_number doc.unknowns) (first_of (first_of term_number) doc.rights))
 
 abbrev pub noise_size : NoiseEntry → Option ℕ
 noise_size n = degree_size n.degree

@@ -1,8 +1,11 @@
 -- The names of a file.
---   place_of names name == the place of the name in the list, from 0; the length of the list where it is not there
+--   place_of names name == the place of the name in the list, from 0; the length of the list where
+--       it is not there
 --   stands_in names name == the name is there
---   Names == all names of a file, parameters before noises before unknowns, with the places where the noises and the unknowns begin
---   is_known names f == the name of f is there, and f has a derivative only where the name is that of an unknown
+--   Names == all names of a file, parameters before noises before unknowns, with the places where
+--       the noises and the unknowns begin
+--   is_known names f == the name of f is there, and f has a derivative only where the name is that
+--       of an unknown
 --   are_known names ts == so are all factors of the terms
 --   is_noise names f == the name of f is that of a noise
 --   noise_power names t == how many noises t has, counted with their powers
@@ -22,10 +25,12 @@ stands_in names name = nat_lt (place_of names name) (length names)
 
 abbrev pub is_known : Names → WrittenFactor → Bool
 is_known names f =
-    stands_in names.list f.name && ((length f.entries == 0) || nat_le names.first_unknown (place_of names.list f.name))
+    stands_in names.list f.name && ((length f.entries == 0)
+    || nat_le names.first_unknown (place_of names.list f.name))
 
 abbrev pub is_noise : Names → WrittenFactor → Bool
-is_noise names f = nat_le names.first_noise (place_of names.list f.name) && nat_lt (place_of names.list f.name) names.first_unknown
+is_noise names f = nat_le names.first_noise (place_of names.list f.name)
+    && nat_lt (place_of names.list f.name) names.first_unknown
 
 abbrev pub are_known : Names → List WrittenTerm → Bool
 are_known names ts = list_all (λ t. list_all (is_known names) t.factors) ts

@@ -1,26 +1,57 @@
--- What a table of a file means, key by key, in the order in which faults are sought: the first fault, or what the table holds. Items count from 1.
---   r >>= f == what f makes of what r gives; the fault of r where it has one
---   required, of_kind, of_value e x == x; `missing`, `kind` or `value` at the entry e where it is not there
+-- What a table of a file means, key by key, in the order in which faults are sought: the first
+-- fault, or what the table holds. Items count from 1.
+--   ◌>>=◌ == r >>= f is what f makes of what r gives; the fault of r where it has one
+--   required, of_kind, of_value e x == x; `missing`, `kind` or `value` at the entry e where it is
+--       not there
 --   is_key set key == the key may stand in such a table
---   keys_of e set ms == `key` at e where another key stands there
+--   has_other_key set ms == the table has a key that may not stand in such a table
+--   keys_of e set ms == `key` at e where there is one
+--   version_by z == the version with the number z, where there is one
 --   version_of ms == the version, which is 1 or 2
 --   of_version e version == `version` at the entry e where the version is 1
---   whole z, natural z == the whole number z, where it is at least 1, and at least 0;  up_to most n == n, where it is at most `most`
+--   whole z, natural z == the whole number z, where it is at least 1, and where it is at least 0
+--   up_to most n == n, where it is at most `most`
+--   number_of at d == an entry of the scaling: a whole number of at least 1
 --   numbers_from at found ds == whole numbers of at least 1, after those found
---   direction_of dims at seen d == a number of a direction, from 1 to dims, that was not seen before
+--   direction_of dims at seen d == a number of a direction, from 1 to dims, that was not seen
+--       before
 --   directions_from dims at seen ds == directions, after those seen
---   reflect_of version dims d == the directions that may be reflected, where they are written; in version 2 alone
---   moments_of e version d == the moment number of a kernel, at most 20, where one is written; in version 2 alone
+--   reflect_of version dims d == the directions that may be reflected, where they are written; in
+--       version 2 alone
+--   moments_of e version d == the moment number of a kernel, at most 20, where one is written; in
+--       version 2 alone
+--   some_items s ds == the items of the list at s; `value` where it is empty
 --   list_of s key ms == the list at a key, which is there and not empty
+--   of_name e text == text, where it is a name
 --   new_name e seen text == a name that was not seen before
+--   parameter_of at seen d == a parameter: a name that was not seen before
 --   parameters_from at seen ds == names, after those seen
+--   parameters_of d == the parameters, where they are written
+--   table_of s set at d == the table of an item, which has none but these keys
+--   text_of e key ms == the text at a key of an item
+--   name_of s at seen ms == the name of an item, which was not seen before
+--   of_degree e w == w; `degree` at the entry e where it is not there
+--   degree_of e key ms == the degree at a key of an item
+--   group_of e name d == the group of a noise, which is named as the noise where it is not written
 --   noise_of at seen d == a noise: its keys, its name, its degree, its group
 --   noises_from at seen found ds == noises, after those found, with all names seen
---   unknown_of version at seen d == an unknown: its keys, its name, its degree above 0 and its regularity, both without k part, and its moment number
+--   noises_of seen d == the noises, where there are any, with all names seen
+--   positive_of e key ms == the degree of an unknown, which has no k part and is above 0
+--   standard_of e key ms == the regularity of an unknown, which has no k part
+--   unknown_of version at seen d == an unknown: its keys, its name, its degree above 0 and its
+--       regularity, both without k part, and its moment number
 --   unknowns_from version at seen found ds == unknowns, after those found, with all names seen
+--   known_terms e names ts == the terms, where their names are known and none has two noises
+--   terms_of e names ts == the same of what was read; `polynomial` where that is outside the
+--       grammar
 --   directions_of version ms == the scaling, and the directions that may be reflected
---   right_of names dims at d == the terms of a right side, whose names are known, with at most one noise in each
+--   right_of names dims at d == the terms of a right side, whose names are known, with at most one
+--       noise in each
 --   rights_from names dims at found ds == right sides, after those found
+--   names_of list first_noise first_unknown == all names, with the places where noises and unknowns
+--       begin
+--   unknown_part version directions first_noise noises items == the unknowns with their right
+--       sides, as a document with what stands before them
 --   document_of ms == all that the table of a file holds
 use Rattle.std.specs.Prelude.{ℕ, ◌+◌, ℤ, pos, negsuc, List, [], ◌∷◌, ◌++◌, length, codes, Bool, true, false, not, ◌||◌, nat_lt, nat_le, nat_eq, ⊤, if◌then◌else◌, Option, Some, None, Result, Ok, Err}
 use Rattle.std.specs.List.{list_any}
@@ -69,9 +100,14 @@ of_value e None = Err (Malformed e reasons.Value)
 of_value e (Some x) = Ok x
 
 abbrev pub is_key : KeySet → List ℕ → Bool
-is_key keys.Top key = ((((bytes_eq key (codes "noise") || bytes_eq key (codes "parameters")) || bytes_eq key (codes "reflect")) || bytes_eq key (codes "scaling")) || bytes_eq key (codes "unknown")) || bytes_eq key (codes "version")
-is_key keys.OfNoise key = (bytes_eq key (codes "degree") || bytes_eq key (codes "group")) || bytes_eq key (codes "name")
-is_key keys.OfUnknown key = (((bytes_eq key (codes "degree") || bytes_eq key (codes "moments")) || bytes_eq key (codes "name")) || bytes_eq key (codes "regularity")) || bytes_eq key (codes "right")
+is_key keys.Top key = ((((bytes_eq key (codes "noise") || bytes_eq key (codes "parameters"))
+    || bytes_eq key (codes "reflect")) || bytes_eq key (codes "scaling"))
+    || bytes_eq key (codes "unknown")) || bytes_eq key (codes "version")
+is_key keys.OfNoise key = (bytes_eq key (codes "degree") || bytes_eq key (codes "group"))
+    || bytes_eq key (codes "name")
+is_key keys.OfUnknown key = (((bytes_eq key (codes "degree") || bytes_eq key (codes "moments"))
+    || bytes_eq key (codes "name")) || bytes_eq key (codes "regularity"))
+    || bytes_eq key (codes "right")
 
 abbrev pub has_other_key : KeySet → Members → Bool
 has_other_key set no_members = false
@@ -228,14 +264,16 @@ noise_of at seen d = do
   group ← group_of (Part Noise at fields.Group) name (get_member (codes "group") ms)
   Ok (record { name = name; degree = degree; group = group })
 
-unfoldable pub noises_from : ℕ → List (List ℕ) → List NoiseEntry → Items → Result (List (List ℕ) × List NoiseEntry) Fault
+unfoldable pub noises_from : ℕ → List (List ℕ) → List NoiseEntry → Items →
+    Result (List (List ℕ) × List NoiseEntry) Fault
 noises_from at seen found no_items = Ok (seen, found)
 noises_from at seen found (item d ds) = do
   noise ← noise_of at seen d
   noises_from (at + 1) (seen ++ noise.name ∷ []) (found ++ noise ∷ []) ds
 
 -- the noises, where there are any
-unfoldable pub noises_of : List (List ℕ) → Option Data → Result (List (List ℕ) × List NoiseEntry) Fault
+unfoldable pub noises_of : List (List ℕ) → Option Data →
+    Result (List (List ℕ) × List NoiseEntry) Fault
 noises_of seen None = Ok (seen, [])
 noises_of seen (Some d) = do
   items ← of_kind (Whole Noise) (as_array d)
@@ -262,7 +300,8 @@ unknown_of version at seen d = do
   moments ← moments_of (Part Unknown at fields.Moments) version (get_member (codes "moments") ms)
   Ok (record { name = name; degree = degree; regularity = regularity; moments = moments })
 
-unfoldable pub unknowns_from : FileVersion → ℕ → List (List ℕ) → List UnknownEntry → Items → Result (List (List ℕ) × List UnknownEntry) Fault
+unfoldable pub unknowns_from : FileVersion → ℕ → List (List ℕ) → List UnknownEntry → Items →
+    Result (List (List ℕ) × List UnknownEntry) Fault
 unknowns_from version at seen found no_items = Ok (seen, found)
 unknowns_from version at seen found (item d ds) = do
   unknown ← unknown_of version at seen d
@@ -271,7 +310,8 @@ unknowns_from version at seen found (item d ds) = do
 -- the terms, where their names are known and none has two noises
 abbrev pub known_terms : Entry → Names → List WrittenTerm → Result (List WrittenTerm) Fault
 known_terms e names ts =
-    if are_known names ts then (if have_one_noise names ts then Ok ts else Err (Malformed e reasons.Noise)) else Err (Malformed e reasons.Polynomial)
+    if are_known names ts then (if have_one_noise names ts then Ok ts
+    else Err (Malformed e reasons.Noise)) else Err (Malformed e reasons.Polynomial)
 
 abbrev pub terms_of : Entry → Names → Option (List WrittenTerm) → Result (List WrittenTerm) Fault
 terms_of e names None = Err (Malformed e reasons.Polynomial)
@@ -283,14 +323,16 @@ right_of names dims at d = do
   text ← text_of (Part Unknown at fields.Right) (codes "right") ms
   terms_of (Part Unknown at fields.Right) names (right_side dims text)
 
-unfoldable pub rights_from : Names → ℕ → ℕ → List (List WrittenTerm) → Items → Result (List (List WrittenTerm)) Fault
+unfoldable pub rights_from : Names → ℕ → ℕ → List (List WrittenTerm) → Items →
+    Result (List (List WrittenTerm)) Fault
 rights_from names dims at found no_items = Ok found
 rights_from names dims at found (item d ds) = do
   terms ← right_of names dims at d
   rights_from names dims (at + 1) (found ++ terms ∷ []) ds
 
 abbrev pub names_of : List (List ℕ) → ℕ → ℕ → Names
-names_of list first_noise first_unknown = record { list = list; first_noise = first_noise; first_unknown = first_unknown }
+names_of list first_noise first_unknown =
+    record { list = list; first_noise = first_noise; first_unknown = first_unknown }
 
 -- the scaling, and the directions that may be reflected
 unfoldable pub directions_of : FileVersion → Members → Result (List ℕ × List ℕ) Fault
@@ -301,7 +343,8 @@ directions_of version ms = do
   Ok (scaling, reflect)
 
 -- what the directions and names of a file are followed by: its unknowns with their right sides
-unfoldable pub unknown_part : FileVersion → (List ℕ × List ℕ) → ℕ → (List (List ℕ) × List NoiseEntry) → Items → Result Document Fault
+unfoldable pub unknown_part : FileVersion → (List ℕ × List ℕ) → ℕ →
+    (List (List ℕ) × List NoiseEntry) → Items → Result Document Fault
 unknown_part version directions first_noise noises items = do
   unknowns ← unknowns_from version 1 noises.0 [] items
   rights ← rights_from (names_of unknowns.0 first_noise (length noises.0)) (length directions.0) 1 [] items

@@ -11,7 +11,8 @@ use degree_numbers::{Degree, Fraction, Parts, degree_parts, first_large, fractio
 use right_side_text::{Denominator, WrittenFraction};
 use std::marker::Model;
 
-/// A degree as a file writes it. Contracts see its plain fraction, that of `k`, and its first number past 1,000,000.
+/// A degree as a file writes it. Contracts see its plain fraction, that of `k`, and its first
+/// number past 1,000,000 (`LARGEST_NUMBER`).
 #[derive(Debug, Drop)]
 pub struct DegreeEntry {
     read: Parts,
@@ -54,7 +55,7 @@ impl DegreeEntry {
         fraction_with(true, self.read)
     }
 
-    /// The first written number past 1,000,000.
+    /// The first written number past 1,000,000 (`LARGEST_NUMBER`).
     pub fn large(&self) -> Option<u64>
         ensures { result ≡ self.now.large }
     {
@@ -76,7 +77,8 @@ impl DegreeEntry {
         self.is_standard() && plain.num != 0 && !plain.negative
     }
 
-    /// The size of the plain part, else of the coefficient of `k`, rounded up, where it passes 20.
+    /// The size of the plain part, else of the coefficient of `k`, rounded up, where it passes 20
+    /// (`LARGEST_DEGREE`).
     pub fn size(&self) -> Option<u64>
         ensures { result ≡ degree_size self.now }
     {

@@ -5,7 +5,8 @@ use degree_numbers::Name;
 use right_side_text::WrittenTerm;
 use sqlite_items::Items;
 
-/// A noise as a file writes it. Without a group of its own it is in the group that is named as it is.
+/// A noise as a file writes it. Without a group of its own it is in the group that is named as it
+/// is.
 #[derive(Debug, Drop)]
 pub struct NoiseEntry {
     pub name: Name,
@@ -13,7 +14,8 @@ pub struct NoiseEntry {
     pub group: Name,
 }
 
-/// An unknown as a file writes it, without its right side. With moment number r, its kernel integrates polynomials of scaled degree up to r to zero.
+/// An unknown as a file writes it, without its right side. With moment number r, its kernel
+/// integrates polynomials of scaled degree up to r to zero.
 #[derive(Debug, Drop)]
 pub struct UnknownEntry {
     pub name: Name,
@@ -22,8 +24,8 @@ pub struct UnknownEntry {
     pub moments: Option<u8>,
 }
 
-/// What a file holds: its scaling, the directions that may be reflected, counted from 1, all its names, its noises, its unknowns and their right sides, in file
-/// order.
+/// What a file holds: its scaling, the directions that may be reflected, counted from 1, all its
+/// names, its noises, its unknowns and their right sides, in file order.
 #[derive(Debug, Drop)]
 pub struct Document {
     pub scaling: Items<u64>,

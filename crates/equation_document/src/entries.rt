@@ -91,7 +91,8 @@ fn some_items(section: Section, values: &[Value]) -> Result<&[Value], ReadError>
 /// The list at a key, which is there and not empty.
 #[tactic(auto, unfolding(crate::specs::Reading::list_of))]
 pub fn list_of<'a>(section: Section, key: &str, table: &'a Table) -> Result<&'a [Value], ReadError>
-    ensures { Gives (λ v. items_view v.now) result (list_of section key.now (table_view table.now)) }
+    ensures { Gives (λ v. items_view v.now) result
+        (list_of section key.now (table_view table.now)) }
 {
     let Some(value) = value_at(table, key) else {
         return Err(malformed(Entry::Whole(section), Reason::Missing));

@@ -26,7 +26,8 @@ pub enum Field {
     Right,
 }
 
-/// A place of a file: the file itself, what stands at a top key, an item of a list, counted from 1, or what stands at a key of an item.
+/// A place of a file: the file itself, what stands at a top key, an item of a list, counted from 1,
+/// or what stands at a key of an item.
 #[derive(Clone, Copy, Debug, PartialEq, Eq)]
 pub enum Entry {
     File,
@@ -48,11 +49,13 @@ pub enum Reason {
     Key,
     /// It is no name.
     Name,
-    /// It is a name that stands earlier in the file, or a direction that stands earlier in its list.
+    /// It is a name that stands earlier in the file, or a direction that stands earlier in its
+    /// list.
     Repeated,
     /// It is no degree text.
     Degree,
-    /// It is no right side: outside the grammar, with a name that is not there, or with a derivative of a noise or a parameter.
+    /// It is no right side: outside the grammar, with a name that is not there, or with a
+    /// derivative of a noise or a parameter.
     Polynomial,
     /// A term has more than one noise, counted with powers.
     Noise,
@@ -63,31 +66,35 @@ pub enum Reason {
 /// What is limited.
 #[derive(Clone, Copy, Debug, PartialEq, Eq)]
 pub enum Which {
-    /// The bytes of the file: 65,536.
+    /// The bytes of the file: 65,536 (`MOST_BYTES`).
     Bytes,
-    /// The entries of the scaling: 5.
+    /// The entries of the scaling: 5 (`MOST_DIMENSIONS`).
     Dimensions,
-    /// An entry of the scaling: 10.
+    /// An entry of the scaling: 10 (`LARGEST_SCALING`).
     Scaling,
-    /// The parameters: 8.
+    /// The parameters: 8 (`MOST_NAMES`).
     Parameters,
-    /// The noises: 8.
+    /// The noises: 8 (`MOST_NAMES`).
     Noises,
-    /// The unknowns: 8.
+    /// The unknowns: 8 (`MOST_NAMES`).
     Unknowns,
-    /// A number that is written in a degree, a regularity or a right side: 1,000,000.
+    /// A number that is written in a degree, a regularity or a right side: 1,000,000
+    /// (`LARGEST_NUMBER`).
     Number,
-    /// The size of the standard part or of the k part of a degree or a regularity, rounded up: 20.
+    /// The size of the standard part or of the k part of a degree or a regularity, rounded up: 20
+    /// (`LARGEST_DEGREE`).
     Degree,
-    /// The least common denominator of all degrees and regularities: 1,000,000.
+    /// The least common denominator of all degrees and regularities: 1,000,000
+    /// (`LARGEST_DENOMINATOR`).
     Unit,
-    /// The terms of a right side, as they are written: 64.
+    /// The terms of a right side, as they are written: 64 (`MOST_TERMS`).
     Terms,
-    /// The factors of a term, counted with their powers: 24.
+    /// The factors of a term, counted with their powers: 24 (`MOST_FACTORS`).
     Factors,
-    /// An entry of a derivative: 8.
+    /// An entry of a derivative: 8 (`LARGEST_ENTRY`).
     Derivative,
-    /// The least common denominator of all coefficients, as they are written: 1,000,000.
+    /// The least common denominator of all coefficients, as they are written: 1,000,000
+    /// (`LARGEST_DENOMINATOR`).
     Denominator,
 }
 

@@ -1,4 +1,5 @@
 //! What an equation file holds: from the bytes of a file to its document, or to its first fault.
+//! What the document means as an equation is said above it.
 #![tactic(auto)]
 
 mod bounds;

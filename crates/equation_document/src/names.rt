@@ -8,7 +8,8 @@ use degree_numbers::Name;
 use right_side_text::{WrittenFactor, WrittenTerm};
 use sqlite_items::Items;
 
-/// All names of a file, parameters before noises before unknowns, with the places where the noises and the unknowns begin.
+/// All names of a file, parameters before noises before unknowns, with the places where the noises
+/// and the unknowns begin.
 #[derive(Debug, Drop)]
 pub struct Names {
     pub list: Items<Name>,

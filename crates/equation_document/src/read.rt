@@ -52,7 +52,8 @@ fn reading(alloc: Global, bytes: &[u8]) -> Result<Document, ReadError>
     text_document(alloc, text)
 }
 
-/// What the bytes of a file hold, within all limits; or the first fault, in the order: more than 65,536 bytes, no UTF-8, no TOML, a bad entry, a limit.
+/// What the bytes of a file hold, within all limits; or the first fault, in the order: more than
+/// 65,536 bytes, no UTF-8, no TOML, a bad entry, a limit.
 pub fn read_document(alloc: Global, bytes: &[u8]) -> Result<Document, ReadError>
     ensures document { Gives (λ d. d) result (reading bytes.now) }
     ensures counted { IfOk result (λ d. AreCounted d) }

@@ -70,7 +70,8 @@ fn directions_of(
     version: FileVersion,
     table: &Table,
 ) -> Result<Directions, ReadError>
-    ensures { Gives (λ d. (d.scaling, d.reflect)) result (directions_of version (table_view table.now)) }
+    ensures { Gives (λ d. (d.scaling, d.reflect)) result
+        (directions_of version (table_view table.now)) }
 {
     let numbers = list_of(Section::Scaling, "scaling", table)?;
     let scaling = numbers_from(alloc, numbers)?;
@@ -115,7 +116,8 @@ fn parameters_of(alloc: Global, value: Option<&Value>) -> Result<Items<Name>, Re
 
 #[tactic(auto, unfolding(crate::specs::Reading::group_of))]
 fn group_of(entry: Entry, name: &Name, value: Option<&Value>) -> Result<Name, ReadError>
-    ensures { Gives (λ n. n) result (group_of entry name.now (option_map (λ v. view v.now) value.entry)) }
+    ensures { Gives (λ n. n) result
+        (group_of entry name.now (option_map (λ v. view v.now) value.entry)) }
 {
     let Some(value) = value else {
         return Ok(*name);
@@ -150,7 +152,8 @@ fn noise_of(at: usize, seen: &[Name], value: &Value) -> Result<NoiseEntry, ReadE
 }
 
 fn noises_from(alloc: Global, seen: Items<Name>, values: &[Value]) -> Result<FoundNoises, ReadError>
-    ensures { Gives (λ v. (v.seen, v.found)) result (noises_from 1 seen [] (items_view values.now)) }
+    ensures { Gives (λ v. (v.seen, v.found)) result
+        (noises_from 1 seen [] (items_view values.now)) }
 {
     let mut seen = seen;
     let mut found = Items::new(alloc);
@@ -168,7 +171,8 @@ fn noises_of(
     seen: Items<Name>,
     value: Option<&Value>,
 ) -> Result<FoundNoises, ReadError>
-    ensures { Gives (λ v. (v.seen, v.found)) result (noises_of seen (option_map (λ v. view v.now) value.entry)) }
+    ensures { Gives (λ v. (v.seen, v.found)) result
+        (noises_of seen (option_map (λ v. view v.now) value.entry)) }
 {
     let Some(value) = value else {
         let found = Items::new(alloc);
@@ -244,7 +248,8 @@ fn unknowns_from(
     seen: Items<Name>,
     values: &[Value],
 ) -> Result<FoundUnknowns, ReadError>
-    ensures { Gives (λ v. (v.seen, v.found)) result (unknowns_from version 1 seen [] (items_view values.now)) }
+    ensures { Gives (λ v. (v.seen, v.found)) result (unknowns_from version 1 seen []
+        (items_view values.now)) }
 {
     let mut seen = seen;
     let mut found = Items::new(alloc);
@@ -265,7 +270,8 @@ fn unknown_part(
     noises: FoundNoises,
     values: &[Value],
 ) -> Result<Document, ReadError>
-    ensures { Gives (λ d. d) result (unknown_part version (directions.scaling, directions.reflect) parameters (noises.seen, noises.found) (items_view values.now)) }
+    ensures { Gives (λ d. d) result (unknown_part version (directions.scaling, directions.reflect)
+        parameters (noises.seen, noises.found) (items_view values.now)) }
 {
     let first_unknown = noises.seen.len();
     let unknowns = unknowns_from(alloc, version, noises.seen, values)?;

@@ -58,7 +58,7 @@ fn term_number(term: &WrittenTerm) -> Option<u64>
     factors_number(term.factors.as_slice())
 }
 
-/// The first written number of a right side past 1,000,000.
+/// The first written number of a right side past 1,000,000 (`LARGEST_NUMBER`).
 pub fn terms_number(terms: &[WrittenTerm]) -> Option<u64>
     ensures { result ≡ first_of term_number terms.now }
 {
@@ -104,7 +104,7 @@ fn term_derivative(term: &WrittenTerm) -> Option<u64>
     None
 }
 
-/// The first entry of a derivative past 8.
+/// The first entry of a derivative past 8 (`LARGEST_ENTRY`).
 pub fn terms_derivative(terms: &[WrittenTerm]) -> Option<u64>
     ensures { result ≡ first_of term_derivative terms.now }
 {

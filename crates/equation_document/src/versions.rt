@@ -1,4 +1,5 @@
-// The version of a file, and what a file of version 2 may declare: directions that may be reflected, and moments of kernels.
+// The version of a file, and what a file of version 2 may declare: directions that may be
+// reflected, and moments of kernels.
 ghost use Rattle.std.specs.Prelude.{◌≡◌, ◌<◌, ◌^◌, [], option_map, length};
 ghost use Rattle.std.specs.List.{list_any};
 ghost use Rattle.toml.specs.View.{view, items_view, table_view};
@@ -112,7 +113,8 @@ fn directions_from(alloc: Global, dims: usize, values: &[Value]) -> Result<Items
     Ok(seen)
 }
 
-/// The directions that may be reflected, counted from 1, as they are written; none where they are not.
+/// The directions that may be reflected, counted from 1, as they are written; none where they are
+/// not.
 #[tactic(auto, unfolding(crate::specs::Reading::reflect_of))]
 pub fn reflect_of(
     alloc: Global,
@@ -120,7 +122,8 @@ pub fn reflect_of(
     dims: usize,
     value: Option<&Value>,
 ) -> Result<Items<u64>, ReadError>
-    ensures { Gives (λ v. v) result (reflect_of version dims (option_map (λ v. view v.now) value.entry)) }
+    ensures { Gives (λ v. v) result
+        (reflect_of version dims (option_map (λ v. view v.now) value.entry)) }
 {
     let entry = Entry::Whole(Section::Reflect);
     let Some(value) = value else {
@@ -140,7 +143,8 @@ pub fn moments_of(
     version: FileVersion,
     value: Option<&Value>,
 ) -> Result<Option<u8>, ReadError>
-    ensures { Gives (λ r. r) result (moments_of at version (option_map (λ v. view v.now) value.entry)) }
+    ensures { Gives (λ r. r) result
+        (moments_of at version (option_map (λ v. view v.now) value.entry)) }
 {
     let Some(value) = value else {
         return Ok(None);

@@ -24,7 +24,10 @@ use Rattle.equation_file.specs.Meaning.{types_of, equation_in, document_equation
 use Rattle.equation_file.proofs.AcceptedRights.{IsRight, accepted_rights, regularities_are, kernel_numbers}
 use Rattle.equation_file.proofs.AcceptedTypes.{accepted_types, all_names, denominator_within, kernels_are, noise_count_is, regularity_writable}
 
-unknowns_are : (ty : Types) (count : ℕ) (us : List Unknown) → AllByRecursion (λ u. IsRight ty count u.right) us → AllByRecursion (λ u. IsWritable (unsigned_abs ty.units.den) u.regularity.a × (u.regularity.b ≡ pos 0)) us → AllByRecursion (IsUnknown ty count) us
+unknowns_are : (ty : Types) (count : ℕ) (us : List Unknown) →
+    AllByRecursion (λ u. IsRight ty count u.right) us →
+    AllByRecursion (λ u. IsWritable (unsigned_abs ty.units.den) u.regularity.a × (u.regularity.b ≡ pos 0)) us →
+    AllByRecursion (IsUnknown ty count) us
 unknowns_are ty count [] rights regularities = tt
 unknowns_are ty count (u ∷ us) rights regularities = (
   record { standard = regularities.0.1; bounded = regularities.0.0; few = rights.0.0; terms = rights.0.1 },
@@ -62,7 +65,9 @@ pub document_is_equation : (doc : Document) → IsRead doc → limits_of doc ≡
 unfolding document_equation
 document_is_equation doc read passed = in_equation doc read passed
 
-told_is : (read : Result Document Fault) (eq : Equation) → ((doc : Document) → read ≡ Ok doc → IsEquation (document_equation doc)) → told read ≡ Ok eq → IsEquation eq
+told_is : (read : Result Document Fault) (eq : Equation) →
+    ((doc : Document) → read ≡ Ok doc → IsEquation (document_equation doc)) → told read ≡ Ok eq →
+    IsEquation eq
 told_is (Ok doc) eq is h = subst IsEquation (ap (λ r. unwrap_or (result_ok r) (document_equation doc)) h) (is doc refl)
 told_is (Err f) eq is h = absurd (true≢false (sym (ap is_ok h)))
 

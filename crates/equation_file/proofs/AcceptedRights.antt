@@ -1,6 +1,7 @@
 -- The right sides of an accepted file are within all limits, with their terms in order.
 --   Fits ty names == the types are the noises and the unknowns among the names
---   IsProduct ty count p == a written term within the limits, with its parameters and its factors in order
+--   IsProduct ty count p == a written term within the limits, with its parameters and its factors
+--       in order
 --   IsRight ty count ts == at most 64 terms, each of which IsRightTerm
 use Rattle.std.proofs.Common.{◌≡◌, ◌≢◌, ℕ, zero, suc, ◌+◌, ◌-◌, ◌*◌, ◌<◌, ◌≤◌, ◌⊎◌, ⊎_elim, inl, inr, min, Bool, true, false, true≢false, not, cond, ◌&&◌, ◌||◌, ◌==◌, nat_lt, nat_le, if◌then◌else◌, List, [], ◌∷◌, ◌++◌, map, length, take, filter, fold, slice_index, All, ℤ, pos, ◌-ℤ◌, unsigned_abs, int_eq, nat_cmp, None, Ok, refl, sym, ap, subst, ◌∙◌, arith, length-append, le_trans, div-le_self, mul-le-mul}
 use Rattle.std.proofs.lemmas.Bool.{and_parts}
@@ -103,7 +104,9 @@ in_list p a n m le lt is = omega (arith, le, lt, is)
 no_noise : (p a u c : ℕ) → a ≤ p → u ≤ p → u ≡ a + c → ¬ (p - a < c)
 no_noise p a u c le after is h = omega (arith, le, after, is, h)
 
-factor_is : (ty : Types) (names : Names) (f : WrittenFactor) → Fits ty names → IsFactorRead names ty.dims f → factor_derivative f ≡ None → is_parameter names f ≡ false → IsFactor ty (edge_type_of names f)
+factor_is : (ty : Types) (names : Names) (f : WrittenFactor) → Fits ty names →
+    IsFactorRead names ty.dims f → factor_derivative f ≡ None → is_parameter names f ≡ false →
+    IsFactor ty (edge_type_of names f)
 factor_is ty names f fits read small out =
     let known = and_parts (stands_in names.list f.name) ((length f.entries == 0) || nat_le names.first_unknown (place_of names.list f.name)) read.known in
     let le : names.first_noise ≤ place_of names.list f.name = not_below (place_of names.list f.name) names.first_noise out in
@@ -120,7 +123,8 @@ factor_is ty names f fits read small out =
 
 -- how many parameters and factors
 
-sized_step : (names : Names) (ps : List ℕ) (gs : List EdgeType) (f : WrittenFactor) → length (with_parameter names ps f) + length (with_factor names gs f) ≡ (length ps + length gs) + f.power
+sized_step : (names : Names) (ps : List ℕ) (gs : List EdgeType) (f : WrittenFactor) →
+    length (with_parameter names ps f) + length (with_factor names gs f) ≡ (length ps + length gs) + f.power
 sized_step names ps gs f =
     let p = place_of names.list f.name in
     let e = edge_type_of names f in
@@ -129,7 +133,9 @@ sized_step names ps gs f =
       | false ↦ omega (arith, length_often f.power edge_type_order gs e)
     ]
 
-sized : (names : Names) (fs : List WrittenFactor) (ps : List ℕ) (gs : List EdgeType) (n : ℕ) → length ps + length gs ≡ n → length (fold (with_parameter names) ps fs) + length (fold (with_factor names) gs fs) ≡ fold (λ n f. n + f.power) n fs
+sized : (names : Names) (fs : List WrittenFactor) (ps : List ℕ) (gs : List EdgeType) (n : ℕ) →
+    length ps + length gs ≡ n →
+    length (fold (with_parameter names) ps fs) + length (fold (with_factor names) gs fs) ≡ fold (λ n f. n + f.power) n fs
 sized names [] ps gs n h = h
 sized names (f ∷ fs) ps gs n h = sized names fs (with_parameter names ps f) (with_factor names gs f) (n + f.power) (sized_step names ps gs f ∙ ap (λ m. m + f.power) h)
 
@@ -152,7 +158,9 @@ some_more : (b : Bool) (n k : ℕ) → cond b k 0 + n ≡ (if b then n + k else 
 some_more true n k = omega arith
 some_more false n k = omega arith
 
-noises_step : (count : ℕ) (names : Names) (gs : List EdgeType) (f : WrittenFactor) → names.first_unknown ≡ names.first_noise + count → length (filter (λ g. nat_lt g.0.0 count) (with_factor names gs f)) ≡ (if is_noise names f then length (filter (λ g. nat_lt g.0.0 count) gs) + f.power else length (filter (λ g. nat_lt g.0.0 count) gs))
+noises_step : (count : ℕ) (names : Names) (gs : List EdgeType) (f : WrittenFactor) →
+    names.first_unknown ≡ names.first_noise + count →
+    length (filter (λ g. nat_lt g.0.0 count) (with_factor names gs f)) ≡ (if is_noise names f then length (filter (λ g. nat_lt g.0.0 count) gs) + f.power else length (filter (λ g. nat_lt g.0.0 count) gs))
 noises_step count names gs f is =
     let p = place_of names.list f.name in
     let e = edge_type_of names f in
@@ -162,7 +170,10 @@ noises_step count names gs f is =
       | false ↦ λ h. count_often (λ g. nat_lt g.0.0 count) f.power edge_type_order gs e ∙ ap (λ b. cond b f.power 0 + n) (noise_is p names.first_noise names.first_unknown count is h) ∙ some_more (is_noise names f) n f.power
     ]) refl
 
-noises_are : (count : ℕ) (names : Names) (fs : List WrittenFactor) (gs : List EdgeType) (n : ℕ) → names.first_unknown ≡ names.first_noise + count → length (filter (λ g. nat_lt g.0.0 count) gs) ≡ n → length (filter (λ g. nat_lt g.0.0 count) (fold (with_factor names) gs fs)) ≡ fold (λ n f. if is_noise names f then n + f.power else n) n fs
+noises_are : (count : ℕ) (names : Names) (fs : List WrittenFactor) (gs : List EdgeType) (n : ℕ) →
+    names.first_unknown ≡ names.first_noise + count →
+    length (filter (λ g. nat_lt g.0.0 count) gs) ≡ n →
+    length (filter (λ g. nat_lt g.0.0 count) (fold (with_factor names) gs fs)) ≡ fold (λ n f. if is_noise names f then n + f.power else n) n fs
 noises_are count names [] gs n is h = h
 noises_are count names (f ∷ fs) gs n is h =
     noises_are count names fs (with_factor names gs f) (if is_noise names f then n + f.power else n) is
@@ -177,14 +188,17 @@ parameters_rise names (f ∷ fs) ps h = parameters_rise names fs (with_parameter
   | false ↦ h
 ])
 
-factors_rise : (names : Names) (fs : List WrittenFactor) (gs : List EdgeType) → Rises edge_type_order gs → Rises edge_type_order (fold (with_factor names) gs fs)
+factors_rise : (names : Names) (fs : List WrittenFactor) (gs : List EdgeType) →
+    Rises edge_type_order gs → Rises edge_type_order (fold (with_factor names) gs fs)
 factors_rise names [] gs h = h
 factors_rise names (f ∷ fs) gs h = factors_rise names fs (with_factor names gs f) (elim (is_parameter names f) as (λ b. Rises edge_type_order (if b then gs else placed_often f.power edge_type_order gs (edge_type_of names f))) [
   | true ↦ h
   | false ↦ rises_often edge_type_order edge_type_order_total f.power gs (edge_type_of names f) h
 ])
 
-parameters_known : (names : Names) (count : ℕ) (fs : List WrittenFactor) (ps : List ℕ) → names.first_noise ≤ count → AllByRecursion (λ n. n < count) ps → AllByRecursion (λ n. n < count) (fold (with_parameter names) ps fs)
+parameters_known : (names : Names) (count : ℕ) (fs : List WrittenFactor) (ps : List ℕ) →
+    names.first_noise ≤ count → AllByRecursion (λ n. n < count) ps →
+    AllByRecursion (λ n. n < count) (fold (with_parameter names) ps fs)
 parameters_known names count [] ps le h = h
 parameters_known names count (f ∷ fs) ps le h =
     let p = place_of names.list f.name in
@@ -193,7 +207,10 @@ parameters_known names count (f ∷ fs) ps le h =
       | false ↦ λ e. h
     ]) refl)
 
-factors_known : (ty : Types) (names : Names) (fs : List WrittenFactor) (gs : List EdgeType) → Fits ty names → AllByRecursion (IsFactorRead names ty.dims) fs → first_of factor_derivative fs ≡ None → AllByRecursion (IsFactor ty) gs → AllByRecursion (IsFactor ty) (fold (with_factor names) gs fs)
+factors_known : (ty : Types) (names : Names) (fs : List WrittenFactor) (gs : List EdgeType) →
+    Fits ty names → AllByRecursion (IsFactorRead names ty.dims) fs →
+    first_of factor_derivative fs ≡ None → AllByRecursion (IsFactor ty) gs →
+    AllByRecursion (IsFactor ty) (fold (with_factor names) gs fs)
 factors_known ty names [] gs fits read small h = h
 factors_known ty names (f ∷ fs) gs fits read small h =
     let parts = neither (factor_derivative f) (first_of factor_derivative fs) small in
@@ -202,7 +219,9 @@ factors_known ty names (f ∷ fs) gs fits read small h =
       | false ↦ λ e. all_often (IsFactor ty) f.power edge_type_order gs (edge_type_of names f) (factor_is ty names f fits read.0 parts.0 e) h
     ]) refl)
 
-product_is : (ty : Types) (names : Names) (count : ℕ) (t : WrittenTerm) → Fits ty names → names.first_noise ≤ count → IsTermRead names ty.dims t → term_number t ≡ None → term_factors t ≡ None → term_derivative t ≡ None → IsProduct ty count (product_of names t)
+product_is : (ty : Types) (names : Names) (count : ℕ) (t : WrittenTerm) → Fits ty names →
+    names.first_noise ≤ count → IsTermRead names ty.dims t → term_number t ≡ None →
+    term_factors t ≡ None → term_derivative t ≡ None → IsProduct ty count (product_of names t)
 product_is ty names count t fits le read number few small = record {
   num = within 1000000 t.coefficient.num (neither _ _ number).0;
   few = subst (λ n. n ≤ 24) (sym (sized names t.factors [] [] 0 refl)) (power_few (power_of t) few);
@@ -213,7 +232,10 @@ product_is ty names count t fits le read number few small = record {
   one_noise = subst (λ n. n ≤ 1) (sym (noises_are (noise_count ty) names t.factors [] 0 fits.unknowns refl)) read.one_noise;
 }
 
-products_are : (ty : Types) (names : Names) (count : ℕ) (ts : List WrittenTerm) → Fits ty names → names.first_noise ≤ count → AllByRecursion (IsTermRead names ty.dims) ts → first_of term_number ts ≡ None → first_of term_factors ts ≡ None → first_of term_derivative ts ≡ None → AllByRecursion (IsProduct ty count) (products names ts)
+products_are : (ty : Types) (names : Names) (count : ℕ) (ts : List WrittenTerm) → Fits ty names →
+    names.first_noise ≤ count → AllByRecursion (IsTermRead names ty.dims) ts →
+    first_of term_number ts ≡ None → first_of term_factors ts ≡ None →
+    first_of term_derivative ts ≡ None → AllByRecursion (IsProduct ty count) (products names ts)
 products_are ty names count [] fits le read number few small = tt
 products_are ty names count (t ∷ ts) fits le read number few small =
     let n = neither (term_number t) (first_of term_number ts) number in
@@ -252,7 +274,9 @@ cond_most false n s c h = omega arith
 size_most : (q : ℕ) (t : Product) → q ≤ 1000000 → t.coefficient.num ≤ 1000000 → size q t ≤ 1000000 * 1000000
 size_most q t a b = le_trans (div-le_self (q * t.coefficient.num) t.coefficient.den) (mul-le-mul a b)
 
-sum_most : (negative : Bool) (q : ℕ) (p : Product) (ts : List Product) (n : ℕ) → q ≤ 1000000 → AllByRecursion (λ t. t.coefficient.num ≤ 1000000) ts → fold (λ n t. if beq t.coefficient.negative negative && same p t then n + size q t else n) n ts ≤ n + length ts * (1000000 * 1000000)
+sum_most : (negative : Bool) (q : ℕ) (p : Product) (ts : List Product) (n : ℕ) → q ≤ 1000000 →
+    AllByRecursion (λ t. t.coefficient.num ≤ 1000000) ts →
+    fold (λ n t. if beq t.coefficient.negative negative && same p t then n + size q t else n) n ts ≤ n + length ts * (1000000 * 1000000)
 sum_most negative q p [] n le h = omega arith
 sum_most negative q p (t ∷ ts) n le h =
     let next = if beq t.coefficient.negative negative && same p t then n + size q t else n in
@@ -270,7 +294,8 @@ all_map : {A B : Type 0} (Q : B → Type 0) (f : A → B) (xs : List A) → AllB
 all_map Q f [] h = tt
 all_map Q f (x ∷ xs) h = (h.0, all_map Q f xs h.1)
 
-all_filter : {A : Type 0} (P Q : A → Type 0) (p : A → Bool) (xs : List A) → ((x : A) → p x ≡ true → P x → Q x) → AllByRecursion P xs → AllByRecursion Q (filter p xs)
+all_filter : {A : Type 0} (P Q : A → Type 0) (p : A → Bool) (xs : List A) →
+    ((x : A) → p x ≡ true → P x → Q x) → AllByRecursion P xs → AllByRecursion Q (filter p xs)
 all_filter P Q p [] f h = tt
 all_filter P Q p (x ∷ xs) f h =
     let rest : AllByRecursion Q (filter p xs) = all_filter P Q p xs f h.1 in
@@ -309,7 +334,8 @@ term_is ty count q ts p le few all h nonzero =
 zero_fails : (z : ℤ) → not (int_eq z (pos 0)) ≡ true → z ≢ pos 0
 zero_fails z h is = true≢false (sym h ∙ ap (λ y. not (int_eq y (pos 0))) is)
 
-collected_is : (ty : Types) (count q : ℕ) (ts : List Product) → q ≤ 1000000 → length ts ≤ 64 → AllByRecursion (IsProduct ty count) ts → IsRight ty count (collected q ts)
+collected_is : (ty : Types) (count q : ℕ) (ts : List Product) → q ≤ 1000000 → length ts ≤ 64 →
+    AllByRecursion (IsProduct ty count) ts → IsRight ty count (collected q ts)
 collected_is ty count q ts le few all =
     let first : AllByRecursion (IsProduct ty count) (different ts) = different_all (IsProduct ty count) ts [] all tt in
     let f : Product → RightTerm = λ p. record { coefficient = coefficient_of q ts p; parameters = p.parameters; factors = p.factors } in
@@ -323,7 +349,13 @@ collected_is ty count q ts le few all =
     let fewer : length (different ts) ≤ 0 + length ts = different_length ts [] in
     (omega (arith, long, mapped, fewer, few), All-from_recursion (IsRightTerm ty count) (collected q ts) passing)
 
-rights_collected : (ty : Types) (names : Names) (count q : ℕ) (rights : List (List WrittenTerm)) → Fits ty names → names.first_noise ≤ count → q ≤ 1000000 → AllByRecursion (AllByRecursion (IsTermRead names ty.dims)) rights → first_of right_terms rights ≡ None → first_of (first_of term_number) rights ≡ None → first_of (first_of term_factors) rights ≡ None → first_of (first_of term_derivative) rights ≡ None → AllByRecursion (λ ts. IsRight ty count (collected q (products names ts))) rights
+rights_collected : (ty : Types) (names : Names) (count q : ℕ) (rights : List (List WrittenTerm)) →
+    Fits ty names → names.first_noise ≤ count → q ≤ 1000000 →
+    AllByRecursion (AllByRecursion (IsTermRead names ty.dims)) rights →
+    first_of right_terms rights ≡ None → first_of (first_of term_number) rights ≡ None →
+    first_of (first_of term_factors) rights ≡ None →
+    first_of (first_of term_derivative) rights ≡ None →
+    AllByRecursion (λ ts. IsRight ty count (collected q (products names ts))) rights
 rights_collected ty names count q [] fits le most read few number factors small = tt
 rights_collected ty names count q (ts ∷ rights) fits le most read few number factors small =
     let l = neither (right_terms ts) (first_of right_terms rights) few in
@@ -338,17 +370,23 @@ rights_collected ty names count q (ts ∷ rights) fits le most read few number f
 
 -- the unknowns
 
-pub rights_are : (Q : List RightTerm → Type 0) (l q : ℕ) (names : Names) (k : ℕ) (us : List UnknownEntry) (rights : List (List WrittenTerm)) → AllByRecursion (λ ts. Q (collected q (products names ts))) rights → AllByRecursion (λ u. Q u.right) (unknowns_from l q names k us rights)
+pub rights_are : (Q : List RightTerm → Type 0) (l q : ℕ) (names : Names) (k : ℕ) (us : List UnknownEntry) (rights : List (List WrittenTerm)) →
+    AllByRecursion (λ ts. Q (collected q (products names ts))) rights →
+    AllByRecursion (λ u. Q u.right) (unknowns_from l q names k us rights)
 rights_are Q l q names k [] rights h = tt
 rights_are Q l q names k (u ∷ us) [] h = tt
 rights_are Q l q names k (u ∷ us) (ts ∷ rights) h = (h.0, rights_are Q l q names (k + 1) us rights h.1)
 
-pub regularities_are : (Q : Degree → Type 0) (l q : ℕ) (names : Names) (k : ℕ) (us : List UnknownEntry) (rights : List (List WrittenTerm)) → AllByRecursion (λ u. Q (degree_in l u.regularity)) us → AllByRecursion (λ u. Q u.regularity) (unknowns_from l q names k us rights)
+pub regularities_are : (Q : Degree → Type 0) (l q : ℕ) (names : Names) (k : ℕ) (us : List UnknownEntry) (rights : List (List WrittenTerm)) →
+    AllByRecursion (λ u. Q (degree_in l u.regularity)) us →
+    AllByRecursion (λ u. Q u.regularity) (unknowns_from l q names k us rights)
 regularities_are Q l q names k [] rights h = tt
 regularities_are Q l q names k (u ∷ us) [] h = tt
 regularities_are Q l q names k (u ∷ us) (ts ∷ rights) h = (h.0, regularities_are Q l q names (k + 1) us rights h.1)
 
-numbers_from : (l q : ℕ) (names : Names) (k : ℕ) (us : List UnknownEntry) (rights : List (List WrittenTerm)) → length rights ≡ length us → map (λ u. u.kernel.0) (unknowns_from l q names k us rights) ≡ range_with_len k (length us)
+numbers_from : (l q : ℕ) (names : Names) (k : ℕ) (us : List UnknownEntry) (rights : List (List WrittenTerm)) →
+    length rights ≡ length us →
+    map (λ u. u.kernel.0) (unknowns_from l q names k us rights) ≡ range_with_len k (length us)
 numbers_from l q names k [] rights h = refl
 numbers_from l q names k (u ∷ us) [] h = absurd (omega (arith, h))
 numbers_from l q names k (u ∷ us) (ts ∷ rights) h = ap (λ ns. k ∷ ns) (numbers_from l q names (k + 1) us rights (omega (arith, h)))
@@ -357,10 +395,13 @@ numbers_from l q names k (u ∷ us) (ts ∷ rights) h = ap (λ ns. k ∷ ns) (nu
 pub kernel_numbers : (doc : Document) → IsRead doc → let eq = equation_in (units_of doc) (denominator_of doc) doc in map (λ u. u.kernel.0) eq.unknowns ≡ range_with_len (length doc.noises) (length doc.unknowns)
 kernel_numbers doc read = numbers_from (units_of doc) (denominator_of doc) doc.names (length doc.noises) doc.unknowns doc.rights read.rights
 
-types_counted : (l : ℕ) (groups : List (List ℕ)) (ns : List NoiseEntry) (us : List UnknownEntry) → length (map (noise_type l groups) ns ++ map (kernel_type l) us) ≡ length ns + length us
+types_counted : (l : ℕ) (groups : List (List ℕ)) (ns : List NoiseEntry) (us : List UnknownEntry) →
+    length (map (noise_type l groups) ns ++ map (kernel_type l) us) ≡ length ns + length us
 types_counted l groups ns us = omega (arith, length-append (map (noise_type l groups) ns) (map (kernel_type l) us), length-map ns (noise_type l groups), length-map us (kernel_type l))
 
-names_counted : (list : List (List ℕ)) (first : ℕ) (ns : List NoiseEntry) (us : List UnknownEntry) → first ≤ length list → list ≡ take first list ++ (map (λ n. n.name) ns ++ map (λ u. u.name) us) → length list ≡ first + (length ns + length us)
+names_counted : (list : List (List ℕ)) (first : ℕ) (ns : List NoiseEntry) (us : List UnknownEntry) →
+    first ≤ length list → list ≡ take first list ++ (map (λ n. n.name) ns ++ map (λ u. u.name) us) →
+    length list ≡ first + (length ns + length us)
 names_counted list first ns us le is =
     let whole : length list ≡ length (take first list ++ (map (λ n. n.name) ns ++ map (λ u. u.name) us)) = ap length is in
     let outer = length-append (take first list) (map (λ n. n.name) ns ++ map (λ u. u.name) us) in

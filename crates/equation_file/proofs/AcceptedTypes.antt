@@ -40,7 +40,8 @@ denominator_within doc limits = (denominator_above doc, (is_within doc limits).d
 one_more : (n : ℕ) → 1 + n ≡ suc n
 one_more n = omega arith
 
-noises_counted : (l : ℕ) (gs : List (List ℕ)) (ns : List NoiseEntry) (us : List UnknownEntry) → prefix_len (λ (e : TypeEntry). is_noise e.kind) (map (noise_type l gs) ns ++ map (kernel_type l) us) ≡ length ns
+noises_counted : (l : ℕ) (gs : List (List ℕ)) (ns : List NoiseEntry) (us : List UnknownEntry) →
+    prefix_len (λ (e : TypeEntry). is_noise e.kind) (map (noise_type l gs) ns ++ map (kernel_type l) us) ≡ length ns
 noises_counted l gs [] [] = refl
 noises_counted l gs [] (u ∷ us) = refl
 noises_counted l gs (n ∷ ns) us = ap (λ i. 1 + i) (noises_counted l gs ns us) ∙ one_more (length ns)
@@ -75,12 +76,14 @@ kernel_names : (l : ℕ) (us : List UnknownEntry) → map (λ (e : TypeEntry). e
 kernel_names l [] = refl
 kernel_names l (u ∷ us) = ap (λ names. u.name ∷ names) (kernel_names l us)
 
-type_names : (l : ℕ) (gs : List (List ℕ)) (ns : List NoiseEntry) (us : List UnknownEntry) → map (λ (e : TypeEntry). e.name) (map (noise_type l gs) ns ++ map (kernel_type l) us) ≡ map (λ (n : NoiseEntry). n.name) ns ++ map (λ (u : UnknownEntry). u.name) us
+type_names : (l : ℕ) (gs : List (List ℕ)) (ns : List NoiseEntry) (us : List UnknownEntry) →
+    map (λ (e : TypeEntry). e.name) (map (noise_type l gs) ns ++ map (kernel_type l) us) ≡ map (λ (n : NoiseEntry). n.name) ns ++ map (λ (u : UnknownEntry). u.name) us
 type_names l gs [] us = kernel_names l us
 type_names l gs (n ∷ ns) us = ap (λ names. n.name ∷ names) (type_names l gs ns us)
 
 -- all names of a file: the parameters, then the types
-pub all_names : (doc : Document) → IsRead doc → AreNames (take doc.names.first_noise doc.names.list ++ map (λ (e : TypeEntry). e.name) (types_of (units_of doc) doc).list)
+pub all_names : (doc : Document) → IsRead doc →
+    AreNames (take doc.names.first_noise doc.names.list ++ map (λ (e : TypeEntry). e.name) (types_of (units_of doc) doc).list)
 all_names doc read =
     subst AreNames (read.in_parts ∙ ap (λ names. take doc.names.first_noise doc.names.list ++ names) (sym (type_names (units_of doc) (groups_of doc.noises) doc.noises doc.unknowns))) read.names
 
@@ -118,7 +121,8 @@ scaling_is doc read limits =
 sizes : (doc : Document) → limits_of doc ≡ Ok tt → (first_of noise_size doc.noises ≡ None) × (first_of unknown_size doc.unknowns ≡ None)
 sizes doc limits = neither (first_of noise_size doc.noises) (first_of unknown_size doc.unknowns) (is_within doc limits).sizes
 
-noises_are : (doc : Document) → IsRead doc → limits_of doc ≡ Ok tt → AllByRecursion (IsNoiseEntry (units_of doc)) (map (noise_type (units_of doc) (groups_of doc.noises)) doc.noises)
+noises_are : (doc : Document) → IsRead doc → limits_of doc ≡ Ok tt →
+    AllByRecursion (IsNoiseEntry (units_of doc)) (map (noise_type (units_of doc) (groups_of doc.noises)) doc.noises)
 noises_are doc read limits =
     let w = is_within doc limits in
     let l = units_of doc in
@@ -142,13 +146,15 @@ unknowns_fit doc read limits =
     (λ u h. record { read = h.0.0; degree = h.0.1.0; regularity = h.0.1.1; number = h.1.0; size = h.1.1 })
     (all_both Q P doc.unknowns cleared limited)
 
-kernels_fit : (doc : Document) → IsRead doc → limits_of doc ≡ Ok tt → AllByRecursion (IsKernelEntry (units_of doc)) (map (kernel_type (units_of doc)) doc.unknowns)
+kernels_fit : (doc : Document) → IsRead doc → limits_of doc ≡ Ok tt →
+    AllByRecursion (IsKernelEntry (units_of doc)) (map (kernel_type (units_of doc)) doc.unknowns)
 kernels_fit doc read limits =
     let l = units_of doc in
     all_mapped (IsKernelEntry l) (kernel_type l) doc.unknowns
     (all_weaker (IsUnknownFit l) (λ u. IsKernelEntry l (kernel_type l u)) doc.unknowns (λ u h. kernel_entry l u (units_above doc) h) (unknowns_fit doc read limits))
 
-pub regularity_writable : (doc : Document) → IsRead doc → limits_of doc ≡ Ok tt → AllByRecursion (λ u. IsWritable (units_of doc) (degree_in (units_of doc) u.regularity).a × ((degree_in (units_of doc) u.regularity).b ≡ pos 0)) doc.unknowns
+pub regularity_writable : (doc : Document) → IsRead doc → limits_of doc ≡ Ok tt →
+    AllByRecursion (λ u. IsWritable (units_of doc) (degree_in (units_of doc) u.regularity).a × ((degree_in (units_of doc) u.regularity).b ≡ pos 0)) doc.unknowns
 regularity_writable doc read limits =
     let l = units_of doc in
     all_weaker (IsUnknownFit l) (λ u. IsWritable l (degree_in l u.regularity).a × ((degree_in l u.regularity).b ≡ pos 0)) doc.unknowns (λ u h. regularity_fits l u h) (unknowns_fit doc read limits)

@@ -32,20 +32,26 @@ each_cleared : (l : ℕ) (fs : List WrittenFraction) → ClearsAll l (map plain 
 each_cleared l [] h = tt
 each_cleared l (f ∷ fs) h = (h.0, each_cleared l fs h.1)
 
-of_degree : (l : ℕ) (fs : List WrittenFraction) (w : Written) → AllByRecursion (IsCleared l) (with_fractions fs w) → AllByRecursion (IsCleared l) fs × AreCleared l w
+of_degree : (l : ℕ) (fs : List WrittenFraction) (w : Written) →
+    AllByRecursion (IsCleared l) (with_fractions fs w) →
+    AllByRecursion (IsCleared l) fs × AreCleared l w
 of_degree l fs w h =
     let p = all_parts (IsCleared l) (fs ++ written w.plain ∷ []) (written w.with_k ∷ []) h in
     let q = all_parts (IsCleared l) fs (written w.plain ∷ []) p.0 in
     (q.0, (q.1.0, p.1.0))
 
-of_noises : (l : ℕ) (fs : List WrittenFraction) (ns : List NoiseEntry) → AllByRecursion (IsCleared l) (fold noise_fractions fs ns) → AllByRecursion (IsCleared l) fs × AllByRecursion (λ n. AreCleared l n.degree) ns
+of_noises : (l : ℕ) (fs : List WrittenFraction) (ns : List NoiseEntry) →
+    AllByRecursion (IsCleared l) (fold noise_fractions fs ns) →
+    AllByRecursion (IsCleared l) fs × AllByRecursion (λ n. AreCleared l n.degree) ns
 of_noises l fs [] h = (h, tt)
 of_noises l fs (n ∷ ns) h =
     let rest = of_noises l (with_fractions fs n.degree) ns h in
     let here = of_degree l fs n.degree rest.0 in
     (here.0, (here.1, rest.1))
 
-of_unknowns : (l : ℕ) (fs : List WrittenFraction) (us : List UnknownEntry) → AllByRecursion (IsCleared l) (fold unknown_fractions fs us) → AllByRecursion (IsCleared l) fs × AllByRecursion (λ u. AreCleared l u.degree × AreCleared l u.regularity) us
+of_unknowns : (l : ℕ) (fs : List WrittenFraction) (us : List UnknownEntry) →
+    AllByRecursion (IsCleared l) (fold unknown_fractions fs us) →
+    AllByRecursion (IsCleared l) fs × AllByRecursion (λ u. AreCleared l u.degree × AreCleared l u.regularity) us
 of_unknowns l fs [] h = (h, tt)
 of_unknowns l fs (u ∷ us) h =
     let rest = of_unknowns l (with_fractions (with_fractions fs u.degree) u.regularity) us h in
@@ -56,7 +62,8 @@ of_unknowns l fs (u ∷ us) h =
 below_most : (n : ℕ) → n ≤ 1000000 → n < most
 below_most n le = omega (arith, le)
 
-pub units_clear : (doc : Document) → units_of doc ≤ 1000000 → AllByRecursion (λ n. AreCleared (units_of doc) n.degree) doc.noises × AllByRecursion (λ u. AreCleared (units_of doc) u.degree × AreCleared (units_of doc) u.regularity) doc.unknowns
+pub units_clear : (doc : Document) → units_of doc ≤ 1000000 →
+    AllByRecursion (λ n. AreCleared (units_of doc) n.degree) doc.noises × AllByRecursion (λ u. AreCleared (units_of doc) u.degree × AreCleared (units_of doc) u.regularity) doc.unknowns
 unfolding units_of
 units_clear doc le =
     let all = each_cleared (units_of doc) (degree_fractions doc) (least_clears (degree_fractions doc) (below_most (units_of doc) le)) in
@@ -64,13 +71,16 @@ units_clear doc le =
     let noises = of_noises (units_of doc) [] doc.noises unknowns.0 in
     (noises.1, unknowns.1)
 
-fraction_writable : (l : ℕ) (f : Fraction) → 0 < f.den → Clears l f → f.num ≤ 1000000 → f.den ≤ 1000000 → over 20 (rounded_up f) ≡ None → IsWritable l (in_units_of l f)
+fraction_writable : (l : ℕ) (f : Fraction) → 0 < f.den → Clears l f → f.num ≤ 1000000 →
+    f.den ≤ 1000000 → over 20 (rounded_up f) ≡ None → IsWritable l (in_units_of l f)
 fraction_writable l f above clears num den small = record {
   size = in_units_size l f above clears (rounded_up_most f.num f.den above (within 20 (rounded_up f) small));
   written = in_units_in_range l f above clears num den;
 }
 
-degree_writable : (l : ℕ) (w : Written) → IsDegreeRead w → AreCleared l w → w.large ≡ None → degree_size w ≡ None → IsWritable l (in_units_of l w.plain) × IsWritable l (in_units_of l w.with_k)
+degree_writable : (l : ℕ) (w : Written) → IsDegreeRead w → AreCleared l w → w.large ≡ None →
+    degree_size w ≡ None →
+    IsWritable l (in_units_of l w.plain) × IsWritable l (in_units_of l w.with_k)
 degree_writable l w read cleared none size =
     let sizes = neither (over 20 (rounded_up w.plain)) (over 20 (rounded_up w.with_k)) size in (
       fraction_writable l w.plain read.plain_above cleared.0 (read.plain_num none) (read.plain_den none) sizes.0,
@@ -87,7 +97,9 @@ above_of n e = grind (arith, nat_tests)
 without_k : (l : ℕ) (w : Written) → IsDegreeRead w → AreCleared l w → is_standard w ≡ true → in_units_of l w.with_k ≡ pos 0
 without_k l w read cleared standard = in_units_zero l w.with_k read.k_above cleared.1 (zero_is w.with_k.num (twice (w.with_k.num == 0) standard))
 
-pub noise_entry : (l : ℕ) (gs : List (List ℕ)) (n : NoiseEntry) → IsDegreeRead n.degree → AreCleared l n.degree → noise_number n ≡ None → noise_size n ≡ None → IsNoiseEntry l (noise_type l gs n)
+pub noise_entry : (l : ℕ) (gs : List (List ℕ)) (n : NoiseEntry) → IsDegreeRead n.degree →
+    AreCleared l n.degree → noise_number n ≡ None → noise_size n ≡ None →
+    IsNoiseEntry l (noise_type l gs n)
 noise_entry l gs n read cleared none size =
     let d = degree_writable l n.degree read cleared none size in
     record { kind = refl; a = d.0; b = d.1; moments = refl }

@@ -42,7 +42,8 @@ place_new (n ∷ gs) g h = by (bytes_eq n g) (place_new gs g) h
     by true rest le = absurd (omega (arith, le))
     by false rest le = let r = rest (omega (arith, le)) in omega (arith, r)
 
-chosen : (b : Bool) (gs : List (List ℕ)) (x g : List ℕ) → place_of gs g < length gs → (place_of (if b then gs else gs ++ x ∷ []) g ≡ place_of gs g) × (length gs ≤ length (if b then gs else gs ++ x ∷ []))
+chosen : (b : Bool) (gs : List (List ℕ)) (x g : List ℕ) → place_of gs g < length gs →
+    (place_of (if b then gs else gs ++ x ∷ []) g ≡ place_of gs g) × (length gs ≤ length (if b then gs else gs ++ x ∷ []))
 chosen true gs x g h = (refl, omega arith)
 chosen false gs x g h = (place_push gs g x h, omega (arith, length-append gs (x ∷ [])))
 
@@ -80,17 +81,24 @@ with_one gs g h is =
       | false ↦ λ e. pushed gs g h is (not_there gs g (not_below (place_of gs g) (length gs) e))
     ] refl
 
-pub groups_named : (ns : List NoiseEntry) (gs : List (List ℕ)) → AreNames gs → AllByRecursion (λ n. is_name n.group ≡ true) ns → AreNames (fold with_group gs ns)
+pub groups_named : (ns : List NoiseEntry) (gs : List (List ℕ)) → AreNames gs →
+    AllByRecursion (λ n. is_name n.group ≡ true) ns → AreNames (fold with_group gs ns)
 groups_named [] gs h names = h
 groups_named (n ∷ ns) gs h names = groups_named ns (with_group gs n) (with_one gs n.group h names.0) names.1
 
 abbrev numbers : ℕ → List (List ℕ) → List NoiseEntry → List ℕ
 numbers l gs ns = map (λ (e : TypeEntry). e.group) (map (noise_type l gs) ns)
 
-met_group : (l : ℕ) (n : NoiseEntry) (ns : List NoiseEntry) (gs : List (List ℕ)) → place_of gs n.group < length gs → AreInOrder (length gs) (numbers l (fold with_group gs ns) ns) (length (fold with_group gs ns)) → AreInOrder (length gs) (numbers l (fold with_group gs ns) (n ∷ ns)) (length (fold with_group gs ns))
+met_group : (l : ℕ) (n : NoiseEntry) (ns : List NoiseEntry) (gs : List (List ℕ)) →
+    place_of gs n.group < length gs →
+    AreInOrder (length gs) (numbers l (fold with_group gs ns) ns) (length (fold with_group gs ns)) →
+    AreInOrder (length gs) (numbers l (fold with_group gs ns) (n ∷ ns)) (length (fold with_group gs ns))
 met_group l n ns gs lt old = inl (subst (λ p. p < length gs) (sym (kept ns gs n.group lt)) lt, old)
 
-new_group : (l : ℕ) (n : NoiseEntry) (ns : List NoiseEntry) (gs : List (List ℕ)) → length gs ≤ place_of gs n.group → AreInOrder (length (gs ++ n.group ∷ [])) (numbers l (fold with_group (gs ++ n.group ∷ []) ns) ns) (length (fold with_group (gs ++ n.group ∷ []) ns)) → AreInOrder (length gs) (numbers l (fold with_group (gs ++ n.group ∷ []) ns) (n ∷ ns)) (length (fold with_group (gs ++ n.group ∷ []) ns))
+new_group : (l : ℕ) (n : NoiseEntry) (ns : List NoiseEntry) (gs : List (List ℕ)) →
+    length gs ≤ place_of gs n.group →
+    AreInOrder (length (gs ++ n.group ∷ [])) (numbers l (fold with_group (gs ++ n.group ∷ []) ns) ns) (length (fold with_group (gs ++ n.group ∷ []) ns)) →
+    AreInOrder (length gs) (numbers l (fold with_group (gs ++ n.group ∷ []) ns) (n ∷ ns)) (length (fold with_group (gs ++ n.group ∷ []) ns))
 new_group l n ns gs le new =
     let len : length (gs ++ n.group ∷ []) ≡ length gs + 1 = length-append gs (n.group ∷ []) in
     let here : place_of (gs ++ n.group ∷ []) n.group ≡ length gs = place_new gs n.group le in
@@ -99,7 +107,10 @@ new_group l n ns gs le new =
       subst (λ m. AreInOrder m (numbers l (fold with_group (gs ++ n.group ∷ []) ns) ns) (length (fold with_group (gs ++ n.group ∷ []) ns))) len new,
     )
 
-order_step : (l : ℕ) (n : NoiseEntry) (ns : List NoiseEntry) (gs : List (List ℕ)) → AreInOrder (length gs) (numbers l (fold with_group gs ns) ns) (length (fold with_group gs ns)) → AreInOrder (length (gs ++ n.group ∷ [])) (numbers l (fold with_group (gs ++ n.group ∷ []) ns) ns) (length (fold with_group (gs ++ n.group ∷ []) ns)) → AreInOrder (length gs) (numbers l (fold with_group (with_group gs n) ns) (n ∷ ns)) (length (fold with_group (with_group gs n) ns))
+order_step : (l : ℕ) (n : NoiseEntry) (ns : List NoiseEntry) (gs : List (List ℕ)) →
+    AreInOrder (length gs) (numbers l (fold with_group gs ns) ns) (length (fold with_group gs ns)) →
+    AreInOrder (length (gs ++ n.group ∷ [])) (numbers l (fold with_group (gs ++ n.group ∷ []) ns) ns) (length (fold with_group (gs ++ n.group ∷ []) ns)) →
+    AreInOrder (length gs) (numbers l (fold with_group (with_group gs n) ns) (n ∷ ns)) (length (fold with_group (with_group gs n) ns))
 order_step l n ns gs old new =
     elim (stands_in gs n.group) as (λ b. stands_in gs n.group ≡ b → AreInOrder (length gs) (numbers l (fold with_group (if b then gs else gs ++ n.group ∷ []) ns) (n ∷ ns)) (length (fold with_group (if b then gs else gs ++ n.group ∷ []) ns))) [
       | true ↦ λ e. met_group l n ns gs (below (place_of gs n.group) (length gs) e) old
@@ -107,6 +118,7 @@ order_step l n ns gs old new =
     ] refl
 
 -- after the groups gs, those of ns are numbered on
-pub in_order : (l : ℕ) (ns : List NoiseEntry) (gs : List (List ℕ)) → AreInOrder (length gs) (map (λ (e : TypeEntry). e.group) (map (noise_type l (fold with_group gs ns)) ns)) (length (fold with_group gs ns))
+pub in_order : (l : ℕ) (ns : List NoiseEntry) (gs : List (List ℕ)) →
+    AreInOrder (length gs) (map (λ (e : TypeEntry). e.group) (map (noise_type l (fold with_group gs ns)) ns)) (length (fold with_group gs ns))
 in_order l [] gs = refl
 in_order l (n ∷ ns) gs = order_step l n ns gs (in_order l ns gs) (in_order l ns (gs ++ n.group ∷ []))

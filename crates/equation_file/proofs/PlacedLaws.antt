@@ -16,12 +16,15 @@ abbrev pub Rises : {X : Type 0} → (X → X → Ordering) → List X → Type 0
 Rises c [] = ⊤
 Rises c (x ∷ xs) = Follow c x xs × Rises c xs
 
-at_front : {X : Type 0} (b : Bool) (n : ℕ) (x y : X) (ys : List X) → take (cond b (1 + n) 0) (y ∷ ys) ++ x ∷ drop (cond b (1 + n) 0) (y ∷ ys) ≡ cond b (y ∷ (take n ys ++ x ∷ drop n ys)) (x ∷ y ∷ ys)
+at_front : {X : Type 0} (b : Bool) (n : ℕ) (x y : X) (ys : List X) →
+    take (cond b (1 + n) 0) (y ∷ ys) ++ x ∷ drop (cond b (1 + n) 0) (y ∷ ys) ≡ cond b (y ∷ (take n ys ++ x ∷ drop n ys)) (x ∷ y ∷ ys)
 at_front true n x y ys = let one : 1 + n ≡ suc n = omega arith in ap (λ k. take k (y ∷ ys) ++ x ∷ drop k (y ∷ ys)) one
 at_front false n x y ys = refl
 
 -- it stands behind the first item or before it
-placed_cases : {X : Type 0} (Q : List X → Type 0) (c : X → X → Ordering) (y : X) (ys : List X) (x : X) → (is_gt (c y x) ≡ false → Q (y ∷ placed c ys x)) → (is_gt (c y x) ≡ true → Q (x ∷ y ∷ ys)) → Q (placed c (y ∷ ys) x)
+placed_cases : {X : Type 0} (Q : List X → Type 0) (c : X → X → Ordering) (y : X) (ys : List X) (x : X) →
+    (is_gt (c y x) ≡ false → Q (y ∷ placed c ys x)) → (is_gt (c y x) ≡ true → Q (x ∷ y ∷ ys)) →
+    Q (placed c (y ∷ ys) x)
 placed_cases Q c y ys x behind before =
     subst Q (sym (at_front (not (is_gt (c y x))) (prefix_len (λ z. not (is_gt (c z x))) ys) x y ys)) (elim (is_gt (c y x)) as (λ b. is_gt (c y x) ≡ b → Q (cond (not b) (y ∷ placed c ys x) (x ∷ y ∷ ys))) [
       | true ↦ before
@@ -62,7 +65,8 @@ one_more : {X : Type 0} (b : Bool) (x : X) (xs : List X) → length (cond b (x �
 one_more true x xs = omega arith
 one_more false x xs = omega arith
 
-count_placed : {X : Type 0} (p : X → Bool) (c : X → X → Ordering) (x : X) (xs : List X) → length (filter p (placed c xs x)) ≡ cond (p x) 1 0 + length (filter p xs)
+count_placed : {X : Type 0} (p : X → Bool) (c : X → X → Ordering) (x : X) (xs : List X) →
+    length (filter p (placed c xs x)) ≡ cond (p x) 1 0 + length (filter p xs)
 count_placed p c x [] = one_more (p x) x []
 count_placed p c x (y ∷ ys) =
     let rest : length (filter p (placed c ys x)) ≡ cond (p x) 1 0 + length (filter p ys) = count_placed p c x ys in
@@ -74,7 +78,8 @@ pub rises_often : {X : Type 0} (c : X → X → Ordering) → IsTotalOrder c →
 rises_often c total zero xs x h = h
 rises_often c total (suc n) xs x h = rises_often c total n (placed c xs x) x (rises_placed c total x xs h)
 
-pub all_often : {X : Type 0} (P : X → Type 0) (n : ℕ) (c : X → X → Ordering) (xs : List X) (x : X) → P x → AllByRecursion P xs → AllByRecursion P (placed_often n c xs x)
+pub all_often : {X : Type 0} (P : X → Type 0) (n : ℕ) (c : X → X → Ordering) (xs : List X) (x : X) →
+    P x → AllByRecursion P xs → AllByRecursion P (placed_often n c xs x)
 all_often P zero c xs x p h = h
 all_often P (suc n) c xs x p h = all_often P n c (placed c xs x) x p (all_placed P c x xs p h)
 
@@ -86,7 +91,8 @@ again : (b : Bool) (n m : ℕ) → cond b n 0 + (cond b 1 0 + m) ≡ cond b (suc
 again true n m = omega arith
 again false n m = omega arith
 
-pub count_often : {X : Type 0} (p : X → Bool) (n : ℕ) (c : X → X → Ordering) (xs : List X) (x : X) → length (filter p (placed_often n c xs x)) ≡ cond (p x) n 0 + length (filter p xs)
+pub count_often : {X : Type 0} (p : X → Bool) (n : ℕ) (c : X → X → Ordering) (xs : List X) (x : X) →
+    length (filter p (placed_often n c xs x)) ≡ cond (p x) n 0 + length (filter p xs)
 count_often p zero c xs x = none (p x)
   where
     none : (b : Bool) → length (filter p xs) ≡ cond b 0 0 + length (filter p xs)
@@ -94,7 +100,9 @@ count_often p zero c xs x = none (p x)
     none false = omega arith
 count_often p (suc n) c xs x = count_often p n c (placed c xs x) x ∙ ap (λ m. cond (p x) n 0 + m) (count_placed p c x xs) ∙ again (p x) n (length (filter p xs))
 
-rises_at : {X : Type 0} (c : X → X → Ordering) → IsTotalOrder c → (xs : List X) (k : ℕ) (d : X) → Rises c xs → suc k < length xs → is_lt (c (slice_index_or xs (suc k) d) (slice_index_or xs k d)) ≡ false
+rises_at : {X : Type 0} (c : X → X → Ordering) → IsTotalOrder c → (xs : List X) (k : ℕ) (d : X) →
+    Rises c xs → suc k < length xs →
+    is_lt (c (slice_index_or xs (suc k) d) (slice_index_or xs k d)) ≡ false
 rises_at c total [] k d h lt = absurd (omega (arith, lt))
 rises_at c total (x ∷ []) k d h lt = absurd (omega (arith, lt))
 rises_at c total (x ∷ y ∷ ys) zero d h lt = ap is_lt (total.antisymm y x) ∙ turned_lt (c x y) ∙ h.0

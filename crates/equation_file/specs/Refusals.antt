@@ -1,6 +1,8 @@
 -- The refusals of a file, as they are told.
 --   section_text s, field_text f == the key itself
---   entry_text e == the name of an entry: `file`, a key, `KEY[i]` for an item of a list, or `KEY[i].KEY` for what stands at a key of an item
+--   item_text s at == `KEY[i]`: the item with the number `at` of the list at a top key
+--   entry_text e == the name of an entry: `file`, a key, `KEY[i]` for an item of a list, or
+--       `KEY[i].KEY` for what stands at a key of an item
 --   refusal_of f == the refusal for a fault; a number past 2^63-1 counts as that
 --   IsAnswer read result == the result is what is read; want of memory is free
 use Rattle.std.specs.Prelude.{ℕ, ◌≡◌, ◌⊎◌, pos, min, List, ◌++◌, codes, decimal, Result, Err}

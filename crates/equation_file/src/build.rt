@@ -99,7 +99,8 @@ fn add_direction(
     written: &[u64],
     direction: u8,
 ) -> Result<(), AllocError>
-    ensures { OnOk result (directions.new ≡ directions.old ++ cond (is_written written.now direction) (direction ∷ []) []) }
+    ensures { OnOk result (directions.new ≡ directions.old
+        ++ cond (is_written written.now direction) (direction ∷ []) []) }
 {
     if written.contains(&(direction as u64)) {
         directions.push(direction)?;
@@ -195,7 +196,8 @@ fn unknowns_of(
     requires den { den ≤ 1000000 }
     requires counted { AreCounted document.now }
     requires limits { limits_of document.now ≡ Ok tt }
-    ensures { IfOk result (λ v. v ≡ unknowns_from units den document.now.names (length document.now.noises) document.now.unknowns document.now.rights) }
+    ensures { IfOk result (λ v. v ≡ unknowns_from units den document.now.names
+        (length document.now.noises) document.now.unknowns document.now.rights) }
 {
     let first = document.noises.len();
     let unknowns = document.unknowns.as_slice();

@@ -77,7 +77,8 @@ fn coefficient(den: u64, terms: &[Product], like: &Product) -> i128
     plus as i128 - minus as i128
 }
 
-/// The collected terms, in the order in which they are first written. Their coefficients are cleared by `den`, and those that add up to 0 are left out.
+/// The collected terms, in the order in which they are first written. Their coefficients are
+/// cleared by `den`, and those that add up to 0 are left out.
 pub fn collected(alloc: Global, den: u64, terms: &[Product]) -> Result<Items<RightTerm>, AllocError>
     requires den { den ≤ 1000000 }
     requires few { length terms.now ≤ 64 }

@@ -8,10 +8,14 @@ use crate::refusal::FileRefusal;
 use degree_numbers::Types;
 use std::alloc::Global;
 
-/// The context of an equation with these types, under which constants are kept: `context 2`, then `|scaling` with its entries, `|reflect` with the directions that may be
-/// reflected or `-`, `|noise NAME DEGREE GROUP` for each noise and `|kernel NAME DEGREE MOMENTS` for each kernel, with the moment number or `-`. Regularities, parameters and
-/// right sides are no part of it, because constants do not depend on them; the text is the same in every common denominator of the degrees. The parabolic Anderson model in
-/// two dimensions has `context 2|scaling 2,1,1|reflect -|noise xi -1-k xi|kernel u 2 -`. Fails only for want of memory.
+/// The context of an equation with these types, under which constants are kept: `context 2`, then
+/// `|scaling` with its entries, `|reflect` with the directions that may be reflected or `-`,
+/// `|noise NAME DEGREE GROUP` for each noise and `|kernel NAME DEGREE MOMENTS` for each kernel,
+/// with the moment number or `-`. Regularities, parameters and right sides are no part of it,
+/// because constants do not depend on them; the text is the same in every common denominator of the
+/// degrees. The parabolic Anderson model in two dimensions has
+/// `context 2|scaling 2,1,1|reflect -|noise xi -1-k xi|kernel u 2 -`. Fails only for want of
+/// memory.
 pub fn context_text(alloc: Global, types: &Types) -> Result<Vec<u8>, FileRefusal>
     requires { AreTypes types.now }
     ensures text { IfOk result (λ text. IsContextText types.now text.items) }
@@ -21,8 +25,9 @@ pub fn context_text(alloc: Global, types: &Types) -> Result<Vec<u8>, FileRefusal
     Ok(text)
 }
 
-/// The context in the old form, in which what is not declared is left out. The parabolic Anderson model in two dimensions has `scaling 2,1,1|noise xi -1-k xi|kernel u 2`.
-/// Fails only for want of memory.
+/// The context in the old form, in which what is not declared is left out. The parabolic Anderson
+/// model in two dimensions has `scaling 2,1,1|noise xi -1-k xi|kernel u 2`. Fails only for want of
+/// memory.
 pub fn old_context_text(alloc: Global, types: &Types) -> Result<Vec<u8>, FileRefusal>
     requires { AreTypes types.now }
     ensures text { IfOk result (λ text. IsOldContextText types.now text.items) }

@@ -2,7 +2,8 @@
 use crate::{Equation, FileRefusal, Reason, read_equation};
 use std::alloc::{AllocError, Global};
 
-// What stands at the version, behind the scaling `[2, 1, 1]` and behind the regularity of the unknown, and the entry and the reason of the fault.
+// What stands at the version, behind the scaling `[2, 1, 1]` and behind the regularity of the
+// unknown, and the entry and the reason of the fault.
 const FAULTS: [(&str, &str, &str, &[u8], Reason); 17] = [
     ("0", "", "", b"version", Reason::Value),
     ("3", "", "", b"version", Reason::Value),

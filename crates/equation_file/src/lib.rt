@@ -1,4 +1,5 @@
-//! Equation files: from the bytes of a file to the equation that it writes down.
+//! Equation files: from the bytes of a file to the equation that it writes down. Here the document
+//! of a file, the contexts of types and the equations meet, which don't know each other.
 #![tactic(auto)]
 
 mod build;

@@ -21,8 +21,10 @@ fn told_equation(alloc: Global, bytes: &[u8]) -> Result<Equation, FileRefusal>
     }
 }
 
-/// The equation that the bytes of a file write down. It is within all limits of a file. The refusals, in the order in which they are sought: `Limit` of more
-/// than 65,536 bytes; `NotUtf8`; `NotToml`; `Malformed` with the first bad entry; `Limit` with the first limit that is passed; and `Memory`.
+/// The equation that the bytes of a file write down. It is within all limits of a file. The
+/// refusals, in the order in which they are sought: `Limit` of more than 65,536 bytes
+/// (`MOST_FILE_BYTES`); `NotUtf8`; `NotToml`; `Malformed` with the first bad entry; `Limit` with
+/// the first limit that is passed; and `Memory`.
 pub fn read_equation(alloc: Global, bytes: &[u8]) -> Result<Equation, FileRefusal>
     ensures answer { IsAnswer (equation_of bytes.now) result }
     ensures equation { IfOk result (λ eq. IsEquation eq) }

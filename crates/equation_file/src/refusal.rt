@@ -7,16 +7,19 @@ use equation_document::{Entry, Fault, Field, Reason, Section, Which};
 use sqlite_items::Items;
 use std::alloc::{AllocError, Global};
 
-/// Why a file is refused. The causes stand in the order in which they are sought, but for `Limit`: the limit on bytes comes first of all, the others last.
+/// Why a file is refused. The causes stand in the order in which they are sought, but for `Limit`:
+/// the limit on bytes comes first of all, the others last.
 #[derive(Debug, Drop)]
 pub enum FileRefusal {
-    /// A measured quantity passes its limit. A number past 2^63-1 counts as that; a file that is too long always as 65,537 bytes.
+    /// A measured quantity passes its limit. A number past 2^63-1 counts as that; a file that is
+    /// too long always as 65,537 bytes.
     Limit { which: Which, count: i64 },
     /// The bytes are not UTF-8.
     NotUtf8,
     /// The text is not TOML, as the library `toml` reads it.
     NotToml,
-    /// What is wrong with the first bad entry. Its name is `file`, a top key, `KEY[i]` for an item of a list, counted from 1, or `KEY[i].KEY`.
+    /// What is wrong with the first bad entry. Its name is `file`, a top key, `KEY[i]` for an item
+    /// of a list, counted from 1, or `KEY[i].KEY`.
     Malformed { entry: Items<u8>, reason: Reason },
     /// Memory ran out.
     Memory,

@@ -39,7 +39,8 @@ fn place_parameter_often(
     parameter: u8,
     times: u64,
 ) -> Result<(), AllocError>
-    ensures { OnOk result (parameters.new.items ≡ placed_often times nat_cmp parameters.old.items parameter) }
+    ensures { OnOk result (parameters.new.items ≡ placed_often times nat_cmp parameters.old.items
+        parameter) }
 {
     for _ in 0..times {
         place_parameter(parameters, parameter)?;
@@ -76,7 +77,8 @@ fn place_factor_often(
     factor: (TypeId, Multi),
     times: u64,
 ) -> Result<(), AllocError>
-    ensures { OnOk result (factors.new.items ≡ placed_often times edge_type_order factors.old.items factor) }
+    ensures { OnOk result (factors.new.items ≡ placed_often times edge_type_order factors.old.items
+        factor) }
 {
     for _ in 0..times {
         place_factor(factors, factor)?;
@@ -147,7 +149,8 @@ fn add_parameter(
     factor: &WrittenFactor,
 ) -> Result<(), AllocError>
     requires { length names.now.list ≤ 24 }
-    ensures { OnOk result (parameters.new.items ≡ with_parameter names.now parameters.old.items factor.now) }
+    ensures { OnOk result (parameters.new.items ≡ with_parameter names.now parameters.old.items
+        factor.now) }
 {
     if is_parameter(names, factor) {
         place_parameter_often(parameters, parameter_of(names, factor), factor.power)?;

@@ -67,7 +67,8 @@ fn has_right(right: &[RightTerm]) -> bool {
     }
 }
 
-// The units are 1/12, the denominator is 6: it is that of the coefficients as they are written, also of those that cancel.
+// The units are 1/12, the denominator is 6: it is that of the coefficients as they are written,
+// also of those that cancel.
 #[test]
 fn a_system_with_parameters_and_groups(rt: HostRuntime) {
     let eq = read_equation(rt.alloc(), SYSTEM).expect(&rt, "an equation");

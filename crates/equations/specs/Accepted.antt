@@ -1,8 +1,12 @@
 -- What the equation of every accepted file satisfies.
---   IsEquation eq == the types are those of an accepted file, all names differ, the unknowns stand for the kernels in order, and everything is within the limits of a file
---   IsUnknown ty count u == the regularity is at most 20 in size and has no k part, and the right side has at most 64 terms, each of which IsRightTerm
---   IsRightTerm ty count t == a coefficient that is not 0, and at most 24 parameters and factors, each list in order, with at most one noise
---   IsFactor ty f == a noise without derivative, or a kernel with a derivative in the directions of the scaling, whose entries are at most 8
+--   IsEquation eq == the types are those of an accepted file, all names differ, the unknowns stand
+--       for the kernels in order, and everything is within the limits of a file
+--   IsUnknown ty count u == the regularity is at most 20 in size and has no k part, and the right
+--       side has at most 64 terms, each of which IsRightTerm
+--   IsRightTerm ty count t == a coefficient that is not 0, and at most 24 parameters and factors,
+--       each list in order, with at most one noise
+--   IsFactor ty f == a noise without derivative, or a kernel with a derivative in the directions of
+--       the scaling, whose entries are at most 8
 use Rattle.std.specs.Prelude.{◌≡◌, ◌≢◌, ◌≤◌, ◌<◌, ◌≤ℤ◌, ℕ, ◌+◌, ◌*◌, pos, unsigned_abs, nat_lt, [], ◌∷◌, ◌++◌, length, map, IsSorted}
 use Rattle.std.specs.List.{All, filter, range_with_len}
 use Rattle.std.specs.Ordering.{nat_cmp}
@@ -42,7 +46,8 @@ pub record IsEquation (eq : Equation) : Type 0 where
   pub types : AreTypes eq.types
   pub few_parameters : length eq.parameters ≤ MOST_NAMES
   pub names : AreNames (eq.parameters ++ map (λ e. e.name) eq.types.list)
-  pub kernels : map (λ u. u.kernel.0) eq.unknowns ≡ range_with_len (noise_count eq.types) (length (kernels eq.types))
+  pub kernels : map (λ u. u.kernel.0) eq.unknowns ≡ range_with_len (noise_count eq.types)
+      (length (kernels eq.types))
   pub unknowns : All (IsUnknown eq.types (length eq.parameters)) eq.unknowns
   pub denominator_above : pos 1 ≤ℤ eq.denominator
   pub denominator_bounded : eq.denominator ≤ℤ pos LARGEST_NUMBER

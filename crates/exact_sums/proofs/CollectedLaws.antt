@@ -23,7 +23,8 @@ split_sum true c d = refl
 split_sum false c d = refl
 
 module _ {K : Type 0} (cmp : K → K → Ordering) (exact : CmpEqualImpliesEq cmp) where
-  pub sum_at-with_term : (k : K) (t : K × ℕ) (us : List (K × ℕ)) → sum_at (same_by cmp) k (with_term cmp t us) ≡ cond (same_by cmp t.0 k) t.1 0 + sum_at (same_by cmp) k us
+  pub sum_at-with_term : (k : K) (t : K × ℕ) (us : List (K × ℕ)) →
+      sum_at (same_by cmp) k (with_term cmp t us) ≡ cond (same_by cmp t.0 k) t.1 0 + sum_at (same_by cmp) k us
   sum_at-with_term k t [] = refl
   sum_at-with_term k t (u ∷ us) =
       (elim (cmp t.0 u.0) as (λ o. cmp t.0 u.0 ≡ o → sum_at (same_by cmp) k (cond (is_gt o) (u ∷ with_term cmp t us) (cond (is_eq o) ((u.0, t.1 + u.1) ∷ us) (t ∷ u ∷ us))) ≡ cond (same_by cmp t.0 k) t.1 0 + (cond (same_by cmp u.0 k) u.1 0 + sum_at (same_by cmp) k us)) [
@@ -40,7 +41,8 @@ module _ {K : Type 0} (cmp : K → K → Ordering) (exact : CmpEqualImpliesEq cm
   sum_at-collected k [] = refl
   sum_at-collected k (t ∷ ts) = sum_at-with_term k t (collected cmp ts) ∙ ap (λ (n : ℕ). cond (same_by cmp t.0 k) t.1 0 + n) (sum_at-collected k ts)
 
-pub with_term_positive : {K : Type 0} (cmp : K → K → Ordering) (t : K × ℕ) (us : List (K × ℕ)) → 0 < t.1 → AllByRecursion IsPositive us → AllByRecursion IsPositive (with_term cmp t us)
+pub with_term_positive : {K : Type 0} (cmp : K → K → Ordering) (t : K × ℕ) (us : List (K × ℕ)) →
+    0 < t.1 → AllByRecursion IsPositive us → AllByRecursion IsPositive (with_term cmp t us)
 with_term_positive cmp t [] h a = (h, tt)
 with_term_positive {K} cmp t (u ∷ us) h a =
     let first : 0 < u.1 = a.0 in
@@ -50,12 +52,15 @@ with_term_positive {K} cmp t (u ∷ us) h a =
       | Greater ↦ (first, with_term_positive cmp t us h a.1)
     ]
 
-pub collected_positive : {K : Type 0} (cmp : K → K → Ordering) (ts : List (K × ℕ)) → AllByRecursion IsPositive ts → AllByRecursion (λ t. 0 < t.1) (collected cmp ts)
+pub collected_positive : {K : Type 0} (cmp : K → K → Ordering) (ts : List (K × ℕ)) →
+    AllByRecursion IsPositive ts → AllByRecursion (λ t. 0 < t.1) (collected cmp ts)
 collected_positive cmp [] a = tt
 collected_positive cmp (t ∷ ts) a = with_term_positive cmp t (collected cmp ts) a.0 (collected_positive cmp ts a.1)
 
 module _ {K : Type 0} (cmp : K → K → Ordering) (total : IsTotalOrder cmp) where
-  above_with : (x : K) (t : K × ℕ) (us : List (K × ℕ)) → cmp x t.0 ≡ Less → AllByRecursion (λ y. cmp x y ≡ Less) (keys us) → AllByRecursion (λ y. cmp x y ≡ Less) (keys (with_term cmp t us))
+  above_with : (x : K) (t : K × ℕ) (us : List (K × ℕ)) → cmp x t.0 ≡ Less →
+      AllByRecursion (λ y. cmp x y ≡ Less) (keys us) →
+      AllByRecursion (λ y. cmp x y ≡ Less) (keys (with_term cmp t us))
   above_with x t [] h a = (h, tt)
   above_with x t (u ∷ us) h a =
       elim (cmp t.0 u.0) as (λ o. AllByRecursion (λ y. cmp x y ≡ Less) (keys (cond (is_gt o) (u ∷ with_term cmp t us) (cond (is_eq o) ((u.0, t.1 + u.1) ∷ us) (t ∷ u ∷ us))))) [
@@ -101,7 +106,9 @@ module _ {K : Type 0} (cmp : K → K → Ordering) (total : IsTotalOrder cmp) (e
   abbrev own : (t : K × ℕ) (ts : List (K × ℕ)) → AllByRecursion (λ y. cmp t.0 y ≡ Less) (keys ts) → sum_at (same_by cmp) t.0 (t ∷ ts) ≡ t.1
   own t ts a = own_sum cmp total (same_by cmp) same_by_exact (λ x y. refl) t ts a
 
-  first_missing : (x : K × ℕ) (xs ys : List (K × ℕ)) → AllByRecursion (λ y. cmp x.0 y ≡ Less) (keys xs) → AllByRecursion (λ y. cmp x.0 y ≡ Less) (keys ys) → 0 < x.1 →
+  first_missing : (x : K × ℕ) (xs ys : List (K × ℕ)) →
+      AllByRecursion (λ y. cmp x.0 y ≡ Less) (keys xs) →
+      AllByRecursion (λ y. cmp x.0 y ≡ Less) (keys ys) → 0 < x.1 →
       sum_at (same_by cmp) x.0 (x ∷ xs) ≡ sum_at (same_by cmp) x.0 ys → ⊥
   first_missing x xs ys a b p e = let s = own x xs a in let n = none x.0 ys b in omega (arith, s, n, e)
 
@@ -110,7 +117,9 @@ module _ {K : Type 0} (cmp : K → K → Ordering) (total : IsTotalOrder cmp) (e
       let e : cond (same_by cmp x.0 k) x.1 0 ≡ cond (same_by cmp y.0 k) y.1 0 = ap (λ (t : K × ℕ). cond (same_by cmp t.0 k) t.1 0) q in
       omega (arith, e, h k)
 
-  pub ascending_unique : (xs ys : List (K × ℕ)) → IsStrictlySortedBy cmp (keys xs) → IsStrictlySortedBy cmp (keys ys) → AllByRecursion IsPositive xs → AllByRecursion IsPositive ys →
+  pub ascending_unique : (xs ys : List (K × ℕ)) → IsStrictlySortedBy cmp (keys xs) →
+      IsStrictlySortedBy cmp (keys ys) → AllByRecursion IsPositive xs →
+      AllByRecursion IsPositive ys →
       HaveSameSums (same_by cmp) xs ys → xs ≡ ys
   unfolding IsStrictlySortedBy
   ascending_unique [] [] s r p q h = refl
@@ -133,7 +142,9 @@ module _ {K : Type 0} (cmp : K → K → Ordering) (total : IsTotalOrder cmp) (e
       ]) refl
 
   -- collected terms are determined by the sums by key
-  pub collected_same : (xs ys : List (K × ℕ)) → AllByRecursion IsPositive xs → AllByRecursion IsPositive ys → HaveSameSums (same_by cmp) xs ys → collected cmp xs ≡ collected cmp ys
+  pub collected_same : (xs ys : List (K × ℕ)) → AllByRecursion IsPositive xs →
+      AllByRecursion IsPositive ys → HaveSameSums (same_by cmp) xs ys →
+      collected cmp xs ≡ collected cmp ys
   collected_same xs ys p q h =
       ascending_unique (collected cmp xs) (collected cmp ys) (collected_ascending cmp total xs) (collected_ascending cmp total ys)
       (collected_positive cmp xs p) (collected_positive cmp ys q)

@@ -59,7 +59,8 @@ pub sum_with-scaled : {K : Type 0} (f : K → ℕ) (c : ℕ) (xs : List (K × �
 sum_with-scaled f c [] = omega arith
 sum_with-scaled f c (x ∷ xs) = omega (arith, sum_with-scaled f c xs)
 
-pub sum_with-expanded : {K J : Type 0} (f : J → ℕ) (step : K → List (J × ℕ)) (xs : List (K × ℕ)) → sum_with f (expanded step xs) ≡ sum_with (λ k. sum_with f (step k)) xs
+pub sum_with-expanded : {K J : Type 0} (f : J → ℕ) (step : K → List (J × ℕ)) (xs : List (K × ℕ)) →
+    sum_with f (expanded step xs) ≡ sum_with (λ k. sum_with f (step k)) xs
 sum_with-expanded f step [] = refl
 sum_with-expanded f step (x ∷ xs) =
     let a = sum_with-append f (scaled x.1 (step x.0)) (expanded step xs) in
@@ -115,7 +116,9 @@ absent same f x c (k ∷ ks) h =
       | false ↦ λ e. omega (arith, absent same f x c ks e)
     ] h
 
-present : {K : Type 0} (same : K → K → Bool) → IsExactTest same → (f : K → ℕ) (x : K) (c : ℕ) (ks : List K) → Apart same ks → has same x ks ≡ true → over f (λ k. cond (same x k) c 0) ks ≡ f x * c
+present : {K : Type 0} (same : K → K → Bool) → IsExactTest same →
+    (f : K → ℕ) (x : K) (c : ℕ) (ks : List K) → Apart same ks → has same x ks ≡ true →
+    over f (λ k. cond (same x k) c 0) ks ≡ f x * c
 present same o f x c [] a h = cc
 present {K} same o f x c (k ∷ ks) a h =
     (elim (same x k) as (λ b. same x k ≡ b → cond b true (has same x ks) ≡ true → f k * cond b c 0 + over f (λ j. cond (same x j) c 0) ks ≡ f x * c) [
@@ -127,7 +130,9 @@ present {K} same o f x c (k ∷ ks) a h =
       | false ↦ λ e g. omega (arith, present same o f x c ks a.1 g)
     ]) refl h
 
-expand : {K : Type 0} (same : K → K → Bool) → IsExactTest same → (f : K → ℕ) (ks : List K) → Apart same ks → (ts : List (K × ℕ)) → Covers same ks ts → over f (λ k. sum_at same k ts) ks ≡ sum_with f ts
+expand : {K : Type 0} (same : K → K → Bool) → IsExactTest same → (f : K → ℕ) (ks : List K) →
+    Apart same ks → (ts : List (K × ℕ)) → Covers same ks ts →
+    over f (λ k. sum_at same k ts) ks ≡ sum_with f ts
 expand same o f ks a [] c = over-zero f ks
 expand same o f ks a (t ∷ ts) c =
     let s = over-add f (λ k. cond (same t.0 k) t.1 0) (λ k. sum_at same k ts) ks in
@@ -174,7 +179,8 @@ covers_right same ks [] ys c = c
 covers_right same ks (x ∷ xs) ys c = covers_right same ks xs ys c.1
 
 -- a sum_with sum depends on the sums by key alone
-pub same_sum_with : {K : Type 0} (same : K → K → Bool) → IsExactTest same → (f : K → ℕ) (xs ys : List (K × ℕ)) → HaveSameSums same xs ys → sum_with f xs ≡ sum_with f ys
+pub same_sum_with : {K : Type 0} (same : K → K → Bool) → IsExactTest same →
+    (f : K → ℕ) (xs ys : List (K × ℕ)) → HaveSameSums same xs ys → sum_with f xs ≡ sum_with f ys
 same_sum_with same o f xs ys h =
     let all = xs ++ ys in
     let ks = keys_of same all in
@@ -184,7 +190,9 @@ same_sum_with same o f xs ys h =
     ∙ over-ext f (λ k. sum_at same k xs) (λ k. sum_at same k ys) h ks
     ∙ expand same o f ks a ys (covers_right same ks xs ys c)
 
-pub same_saturated_sum_with : {K : Type 0} (same : K → K → Bool) → IsExactTest same → (f : K → ℕ) (xs ys : List (K × ℕ)) → HaveSameSaturatedSums same xs ys → saturated (sum_with f xs) ≡ saturated (sum_with f ys)
+pub same_saturated_sum_with : {K : Type 0} (same : K → K → Bool) → IsExactTest same →
+    (f : K → ℕ) (xs ys : List (K × ℕ)) → HaveSameSaturatedSums same xs ys →
+    saturated (sum_with f xs) ≡ saturated (sum_with f ys)
 same_saturated_sum_with same o f xs ys h =
     let all = xs ++ ys in
     let ks = keys_of same all in
@@ -197,30 +205,41 @@ same_saturated_sum_with same o f xs ys h =
     ∙ ap saturated (expand same o f ks a ys (covers_right same ks xs ys c))
 
 -- sums by key of the lists that are made from lists with the same sums
-expanded_at : {K J : Type 0} (sameJ : J → J → Bool) (step : K → List (J × ℕ)) (j : J) (xs : List (K × ℕ)) → sum_at sameJ j (expanded step xs) ≡ sum_with (λ k. sum_at sameJ j (step k)) xs
+expanded_at : {K J : Type 0} (sameJ : J → J → Bool) (step : K → List (J × ℕ)) (j : J) (xs : List (K × ℕ)) →
+    sum_at sameJ j (expanded step xs) ≡ sum_with (λ k. sum_at sameJ j (step k)) xs
 expanded_at {K} {J} sameJ step j xs =
     sym (sum_with_at sameJ j (expanded step xs))
     ∙ sum_with-expanded (λ x. cond (sameJ x j) 1 0) step xs
     ∙ sum_with_ext (λ k. sum_with (λ x. cond (sameJ x j) 1 0) (step k)) (λ k. sum_at sameJ j (step k)) (λ k. sum_with_at sameJ j (step k)) xs
 
-pub expanded_same : {K J : Type 0} (same : K → K → Bool) → IsExactTest same → (sameJ : J → J → Bool) (step : K → List (J × ℕ)) (xs ys : List (K × ℕ)) → HaveSameSums same xs ys → HaveSameSums sameJ (expanded step xs) (expanded step ys)
+pub expanded_same : {K J : Type 0} (same : K → K → Bool) → IsExactTest same →
+    (sameJ : J → J → Bool) (step : K → List (J × ℕ)) (xs ys : List (K × ℕ)) →
+    HaveSameSums same xs ys → HaveSameSums sameJ (expanded step xs) (expanded step ys)
 expanded_same same o sameJ step xs ys h = λ j.
     expanded_at sameJ step j xs ∙ same_sum_with same o (λ k. sum_at sameJ j (step k)) xs ys h ∙ sym (expanded_at sameJ step j ys)
 
-pub expanded_same_saturated : {K J : Type 0} (same : K → K → Bool) → IsExactTest same → (sameJ : J → J → Bool) (step : K → List (J × ℕ)) (xs ys : List (K × ℕ)) → HaveSameSaturatedSums same xs ys → HaveSameSaturatedSums sameJ (expanded step xs) (expanded step ys)
+pub expanded_same_saturated : {K J : Type 0} (same : K → K → Bool) → IsExactTest same →
+    (sameJ : J → J → Bool) (step : K → List (J × ℕ)) (xs ys : List (K × ℕ)) →
+    HaveSameSaturatedSums same xs ys →
+    HaveSameSaturatedSums sameJ (expanded step xs) (expanded step ys)
 expanded_same_saturated same o sameJ step xs ys h = λ j.
     ap saturated (expanded_at sameJ step j xs) ∙ same_saturated_sum_with same o (λ k. sum_at sameJ j (step k)) xs ys h ∙ ap saturated (sym (expanded_at sameJ step j ys))
 
-pub expanded_same_step : {K J : Type 0} (sameJ : J → J → Bool) (step other : K → List (J × ℕ)) → ((k : K) → HaveSameSums sameJ (step k) (other k)) → (xs : List (K × ℕ)) → HaveSameSums sameJ (expanded step xs) (expanded other xs)
+pub expanded_same_step : {K J : Type 0} (sameJ : J → J → Bool) (step other : K → List (J × ℕ)) →
+    ((k : K) → HaveSameSums sameJ (step k) (other k)) → (xs : List (K × ℕ)) →
+    HaveSameSums sameJ (expanded step xs) (expanded other xs)
 expanded_same_step sameJ step other h xs = λ j.
     expanded_at sameJ step j xs
     ∙ sum_with_ext (λ k. sum_at sameJ j (step k)) (λ k. sum_at sameJ j (other k)) (λ k. h k j) xs
     ∙ sym (expanded_at sameJ other j xs)
 
-rekeyed_at : {K J : Type 0} (sameJ : J → J → Bool) (h : K → J) (j : J) (xs : List (K × ℕ)) → sum_at sameJ j (rekeyed h xs) ≡ sum_with (λ k. cond (sameJ (h k) j) 1 0) xs
+rekeyed_at : {K J : Type 0} (sameJ : J → J → Bool) (h : K → J) (j : J) (xs : List (K × ℕ)) →
+    sum_at sameJ j (rekeyed h xs) ≡ sum_with (λ k. cond (sameJ (h k) j) 1 0) xs
 rekeyed_at sameJ h j xs = sym (sum_with_at sameJ j (rekeyed h xs)) ∙ sum_with-rekeyed (λ x. cond (sameJ x j) 1 0) h xs
 
-pub rekeyed_same : {K J : Type 0} (same : K → K → Bool) → IsExactTest same → (sameJ : J → J → Bool) (h : K → J) (xs ys : List (K × ℕ)) → HaveSameSums same xs ys → HaveSameSums sameJ (rekeyed h xs) (rekeyed h ys)
+pub rekeyed_same : {K J : Type 0} (same : K → K → Bool) → IsExactTest same →
+    (sameJ : J → J → Bool) (h : K → J) (xs ys : List (K × ℕ)) → HaveSameSums same xs ys →
+    HaveSameSums sameJ (rekeyed h xs) (rekeyed h ys)
 rekeyed_same same o sameJ h xs ys e = λ j.
     rekeyed_at sameJ h j xs ∙ same_sum_with same o (λ k. cond (sameJ (h k) j) 1 0) xs ys e ∙ sym (rekeyed_at sameJ h j ys)
 
@@ -240,34 +259,42 @@ products_with_at : {K J L : Type 0} (sameL : L → L → Bool) (factor : K → J
 products_with_at sameL factor op k l ys =
     sym (sum_with_at sameL l (products_with factor op k ys)) ∙ sum_with-products_with (λ x. cond (sameL x l) 1 0) factor op k ys
 
-products_with_same : {K J L : Type 0} (sameJ : J → J → Bool) → IsExactTest sameJ → (sameL : L → L → Bool) (factor : K → J → ℕ) (op : K → J → L) (k : K) (ys vs : List (J × ℕ)) →
+products_with_same : {K J L : Type 0} (sameJ : J → J → Bool) → IsExactTest sameJ →
+    (sameL : L → L → Bool) (factor : K → J → ℕ) (op : K → J → L) (k : K) (ys vs : List (J × ℕ)) →
     HaveSameSums sameJ ys vs → HaveSameSums sameL (products_with factor op k ys) (products_with factor op k vs)
 products_with_same sameJ o sameL factor op k ys vs e = λ l.
     products_with_at sameL factor op k l ys
     ∙ same_sum_with sameJ o (λ j. factor k j * cond (sameL (op k j) l) 1 0) ys vs e
     ∙ sym (products_with_at sameL factor op k l vs)
 
-pub products_same : {K J L : Type 0} (same : K → K → Bool) → IsExactTest same → (sameJ : J → J → Bool) → IsExactTest sameJ → (sameL : L → L → Bool) (factor : K → J → ℕ) (op : K → J → L)
+pub products_same : {K J L : Type 0} (same : K → K → Bool) → IsExactTest same →
+    (sameJ : J → J → Bool) → IsExactTest sameJ →
+    (sameL : L → L → Bool) (factor : K → J → ℕ) (op : K → J → L)
     (xs us : List (K × ℕ)) (ys vs : List (J × ℕ)) → HaveSameSums same xs us → HaveSameSums sameJ ys vs → HaveSameSums sameL (products factor op xs ys) (products factor op us vs)
 products_same same o sameJ oJ sameL factor op xs us ys vs h g = λ l.
     expanded_same same o sameL (λ k. products_with factor op k ys) xs us h l
     ∙ expanded_same_step sameL (λ k. products_with factor op k ys) (λ k. products_with factor op k vs) (λ k. products_with_same sameJ oJ sameL factor op k ys vs g) us l
 
 -- the same where sums may be out of range
-saturated_sum_with_ext : {K : Type 0} (f g : K → ℕ) → ((k : K) → saturated (f k) ≡ saturated (g k)) → (xs : List (K × ℕ)) → saturated (sum_with f xs) ≡ saturated (sum_with g xs)
+saturated_sum_with_ext : {K : Type 0} (f g : K → ℕ) →
+    ((k : K) → saturated (f k) ≡ saturated (g k)) → (xs : List (K × ℕ)) →
+    saturated (sum_with f xs) ≡ saturated (sum_with g xs)
 saturated_sum_with_ext f g h [] = refl
 saturated_sum_with_ext f g h (x ∷ xs) =
     let e : saturated (f x.0 * x.1) ≡ saturated (g x.0 * x.1) = sym (saturated_mul_left (f x.0) x.1) ∙ ap (λ (n : ℕ). saturated (n * x.1)) (h x.0) ∙ saturated_mul_left (g x.0) x.1 in
     omega (arith, e, saturated_sum_with_ext f g h xs)
 
-pub expanded_same_saturated_step : {K J : Type 0} (sameJ : J → J → Bool) (step other : K → List (J × ℕ)) → ((k : K) → HaveSameSaturatedSums sameJ (step k) (other k)) →
+pub expanded_same_saturated_step : {K J : Type 0} (sameJ : J → J → Bool) (step other : K → List (J × ℕ)) →
+    ((k : K) → HaveSameSaturatedSums sameJ (step k) (other k)) →
     (xs : List (K × ℕ)) → HaveSameSaturatedSums sameJ (expanded step xs) (expanded other xs)
 expanded_same_saturated_step sameJ step other h xs = λ j.
     ap saturated (expanded_at sameJ step j xs)
     ∙ saturated_sum_with_ext (λ k. sum_at sameJ j (step k)) (λ k. sum_at sameJ j (other k)) (λ k. h k j) xs
     ∙ ap saturated (sym (expanded_at sameJ other j xs))
 
-pub products_same_saturated : {K J L : Type 0} (same : K → K → Bool) → IsExactTest same → (sameJ : J → J → Bool) → IsExactTest sameJ → (sameL : L → L → Bool) (factor : K → J → ℕ) (op : K → J → L)
+pub products_same_saturated : {K J L : Type 0} (same : K → K → Bool) → IsExactTest same →
+    (sameJ : J → J → Bool) → IsExactTest sameJ →
+    (sameL : L → L → Bool) (factor : K → J → ℕ) (op : K → J → L)
     (xs us : List (K × ℕ)) (ys vs : List (J × ℕ)) → HaveSameSaturatedSums same xs us → HaveSameSaturatedSums sameJ ys vs → HaveSameSaturatedSums sameL (products factor op xs ys) (products factor op us vs)
 products_same_saturated same o sameJ oJ sameL factor op xs us ys vs h g = λ l.
     expanded_same_saturated same o sameL (λ k. products_with factor op k ys) xs us h l
@@ -291,7 +318,9 @@ merged : (b : Bool) (c d s : ℕ) → saturated (cond b (saturating_plus c d) 0 
 merged true c d s = omega arith
 merged false c d s = omega arith
 
-join_sums : {K : Type 0} (same : K → K → Bool) → IsExactTest same → (k : K) (t : K × ℕ) (us : List (K × ℕ)) → saturated (sum_at same k (join_onto same t us)) ≡ saturated (cond (same t.0 k) t.1 0 + sum_at same k us)
+join_sums : {K : Type 0} (same : K → K → Bool) → IsExactTest same →
+    (k : K) (t : K × ℕ) (us : List (K × ℕ)) →
+    saturated (sum_at same k (join_onto same t us)) ≡ saturated (cond (same t.0 k) t.1 0 + sum_at same k us)
 join_sums same o k t [] = refl
 join_sums {K} same o k t (u ∷ us) =
     (elim (same u.0 t.0) as (λ b. same u.0 t.0 ≡ b → saturated (sum_at same k (cond b (join_onto same (t.0, saturating_plus t.1 u.1) us) (t ∷ join_onto same u us))) ≡ saturated (cond (same t.0 k) t.1 0 + (cond (same u.0 k) u.1 0 + sum_at same k us))) [
@@ -303,7 +332,8 @@ join_sums {K} same o k t (u ∷ us) =
       | false ↦ λ e. omega (arith, join_sums same o k u us)
     ]) refl
 
-pub joined_neighbours_sums : {K : Type 0} (same : K → K → Bool) → IsExactTest same → (ts : List (K × ℕ)) → HaveSameSaturatedSums same (joined_neighbours same ts) ts
+pub joined_neighbours_sums : {K : Type 0} (same : K → K → Bool) → IsExactTest same →
+    (ts : List (K × ℕ)) → HaveSameSaturatedSums same (joined_neighbours same ts) ts
 joined_neighbours_sums same o [] = λ k. refl
 joined_neighbours_sums same o (t ∷ ts) = λ k. join_sums same o k t ts
 
@@ -317,7 +347,9 @@ one_joined : {K : Type 0} (same : K → K → Bool) (zs : List (K × ℕ)) → j
 one_joined same [] = refl
 one_joined same (z ∷ zs) = refl
 
-pub joined_neighbours_end : {K : Type 0} (same : K → K → Bool) (xs ys : List (K × ℕ)) (l i : ℕ) → length xs ≤ i → take l xs ++ joined_neighbours same (take 1 (drop l xs) ++ drop i xs) ≡ ys → take (l + 1) xs ≡ ys
+pub joined_neighbours_end : {K : Type 0} (same : K → K → Bool) (xs ys : List (K × ℕ)) (l i : ℕ) →
+    length xs ≤ i → take l xs ++ joined_neighbours same (take 1 (drop l xs) ++ drop i xs) ≡ ys →
+    take (l + 1) xs ≡ ys
 joined_neighbours_end {K} same xs ys l i h e =
     take_next l xs
     ∙ ap (λ (zs : List (K × ℕ)). take l xs ++ zs) (sym (one_joined same (drop l xs)))
@@ -340,7 +372,8 @@ joined_neighbours_keys same (t ∷ ts) = join_keys same t ts
 abbrev IsCounted : {K : Type 0} → K × ℕ → Type 0
 IsCounted t = (0 < t.1) × (t.1 ≤ overflow)
 
-join_above : {K : Type 0} (same : K → K → Bool) (t : K × ℕ) (us : List (K × ℕ)) → IsCounted t → AllByRecursion IsCounted us → AllByRecursion IsCounted (join_onto same t us)
+join_above : {K : Type 0} (same : K → K → Bool) (t : K × ℕ) (us : List (K × ℕ)) → IsCounted t →
+    AllByRecursion IsCounted us → AllByRecursion IsCounted (join_onto same t us)
 join_above same t [] h a = (h, tt)
 join_above same t (u ∷ us) h a =
     elim (same u.0 t.0) as (λ b. AllByRecursion IsCounted (cond b (join_onto same (t.0, saturating_plus t.1 u.1) us) (t ∷ join_onto same u us))) [
@@ -348,7 +381,9 @@ join_above same t (u ∷ us) h a =
       | false ↦ (h, join_above same u us a.0 a.1)
     ]
 
-pub joined_neighbours_above : {K : Type 0} (same : K → K → Bool) (ts : List (K × ℕ)) → AllByRecursion (λ t. (0 < t.1) × (t.1 ≤ overflow)) ts → AllByRecursion (λ t. (0 < t.1) × (t.1 ≤ overflow)) (joined_neighbours same ts)
+pub joined_neighbours_above : {K : Type 0} (same : K → K → Bool) (ts : List (K × ℕ)) →
+    AllByRecursion (λ t. (0 < t.1) × (t.1 ≤ overflow)) ts →
+    AllByRecursion (λ t. (0 < t.1) × (t.1 ≤ overflow)) (joined_neighbours same ts)
 joined_neighbours_above same [] a = tt
 joined_neighbours_above same (t ∷ ts) a = join_above same t ts a.0 a.1
 
@@ -379,11 +414,15 @@ module _ {K : Type 0} (c : K → K → Ordering) (total : IsTotalOrder c) (same 
   below_keys k x (y ∷ ys) e h = (total.trans k x y e h.0, below_keys k x ys e h.1)
 
   -- the first key of one list does not stand in the other
-  first_missing : (x : K × ℕ) (xs : List (K × ℕ)) (ys : List (K × ℕ)) → AllByRecursion (λ y. c x.0 y ≡ Less) (keys xs) → AllByRecursion (λ y. c x.0 y ≡ Less) (keys ys) → 0 < x.1
+  first_missing : (x : K × ℕ) (xs : List (K × ℕ)) (ys : List (K × ℕ)) →
+      AllByRecursion (λ y. c x.0 y ≡ Less) (keys xs) →
+      AllByRecursion (λ y. c x.0 y ≡ Less) (keys ys) → 0 < x.1
       → saturated (sum_at same x.0 (x ∷ xs)) ≡ saturated (sum_at same x.0 ys) → ⊥
   first_missing x xs ys a b p e = let s = own_sum x xs a in let n = no_sum x.0 ys b in omega (arith, s, n, e)
 
-  rest_same : (x y : K × ℕ) (xs ys : List (K × ℕ)) → x.0 ≡ y.0 → x.1 ≡ y.1 → AllByRecursion (λ z. c x.0 z ≡ Less) (keys xs) → AllByRecursion (λ z. c x.0 z ≡ Less) (keys ys)
+  rest_same : (x y : K × ℕ) (xs ys : List (K × ℕ)) → x.0 ≡ y.0 → x.1 ≡ y.1 →
+      AllByRecursion (λ z. c x.0 z ≡ Less) (keys xs) →
+      AllByRecursion (λ z. c x.0 z ≡ Less) (keys ys)
       → HaveSameSaturatedSums same (x ∷ xs) (y ∷ ys) → HaveSameSaturatedSums same xs ys
   rest_same x y xs ys q r a b h = λ k.
       (elim (same x.0 k) as (λ d. same x.0 k ≡ d → saturated (sum_at same k xs) ≡ saturated (sum_at same k ys)) [
@@ -398,7 +437,9 @@ module _ {K : Type 0} (c : K → K → Ordering) (total : IsTotalOrder c) (same 
             omega (arith, m, n, h k)
       ]) refl
 
-  pub collected_unique : (xs ys : List (K × ℕ)) → IsStrictlySortedBy c (keys xs) → IsStrictlySortedBy c (keys ys) → AllByRecursion IsCounted xs → AllByRecursion IsCounted ys → HaveSameSaturatedSums same xs ys → xs ≡ ys
+  pub collected_unique : (xs ys : List (K × ℕ)) → IsStrictlySortedBy c (keys xs) →
+      IsStrictlySortedBy c (keys ys) → AllByRecursion IsCounted xs → AllByRecursion IsCounted ys →
+      HaveSameSaturatedSums same xs ys → xs ≡ ys
   unfolding IsStrictlySortedBy
   collected_unique [] [] s r p q h = refl
   collected_unique [] (y ∷ ys) s r p q h = let n = own_sum y ys r.0 in let e = h y.0 in let z : 0 < y.1 = q.0.0 in absurd (omega (arith, n, e))
@@ -443,5 +484,6 @@ both : {K : Type 0} (xs : List (K × ℕ)) → AllByRecursion IsAbove xs → All
 both [] a b = tt
 both (x ∷ xs) a b = ((a.0, b.0), both xs a.1 b.1)
 
-pub counted : {K : Type 0} (xs : List (K × ℕ)) → AllByRecursion (λ t. 0 < t.1) xs → All (λ t. t.1 ≤ overflow) xs → AllByRecursion (λ t. (0 < t.1) × (t.1 ≤ overflow)) xs
+pub counted : {K : Type 0} (xs : List (K × ℕ)) → AllByRecursion (λ t. 0 < t.1) xs →
+    All (λ t. t.1 ≤ overflow) xs → AllByRecursion (λ t. (0 < t.1) × (t.1 ≤ overflow)) xs
 counted xs a b = both xs a (recursion_from_All IsWithin xs b)

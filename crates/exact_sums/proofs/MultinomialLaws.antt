@@ -178,7 +178,8 @@ multinomial-permutation xs ys h =
     let l : multinomial ys * factorials xs ≡ factorial (sum xs) = ap (λ (n : ℕ). multinomial ys * n) (sym (factorials-permutation xs ys h)) ∙ multinomial_factorials ys ∙ ap factorial s in
     cancel (multinomial ys) (multinomial xs) (factorials xs) (factorials_pos xs) (l ∙ sym (multinomial_factorials xs))
 
--- a number that times d is c * m, from the quotient and the rest of c by d: no product is larger than it
+-- a number that times d is c * m, from the quotient and the rest of c by d: no product is larger
+-- than it
 pub exact_quotient : (c m d v : ℕ) → 0 < d → v * d ≡ c * m → v ≡ c / d * m + c % d * m / d
 exact_quotient c m d v p e =
     let q = c / d in
@@ -216,7 +217,8 @@ ways_start xs =
     saturated_mul_left 1 (multinomial_from 0 xs)
     ∙ (let e : 1 * multinomial_from 0 xs ≡ multinomial_from 0 xs = omega arith in ap saturated (e ∙ multinomial_is_from xs))
 
-pub ways_more : (s w x : ℕ) (rest : List ℕ) → saturated (saturating_times w (saturated (binomial (s + x) x)) * multinomial_from (s + x) rest) ≡ saturated (w * multinomial_from s (x ∷ rest))
+pub ways_more : (s w x : ℕ) (rest : List ℕ) →
+    saturated (saturating_times w (saturated (binomial (s + x) x)) * multinomial_from (s + x) rest) ≡ saturated (w * multinomial_from s (x ∷ rest))
 unfolding multinomial_from
 ways_more s w x rest =
     ap (λ (n : ℕ). saturated (n * multinomial_from (s + x) rest)) (saturated_mul_right w (binomial (s + x) x))

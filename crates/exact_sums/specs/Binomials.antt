@@ -1,7 +1,8 @@
 -- Factorials, binomials and multinomials.
 --   factorial n == n!
 --   binomial n k == the number of ways to choose k of n things, by Pascal's rule
---   multinomial [x1, .., xm] == (x1 + .. + xm)! / (x1! * .. * xm!): the number of ways to part so many things into parts of these sizes
+--   multinomial xs == (x1 + .. + xm)! / (x1! * .. * xm!), where x1 to xm are the members of xs: the
+--       number of ways to part so many things into parts of these sizes
 use Rattle.std.specs.Prelude.{ℕ, zero, suc, ◌+◌, ◌*◌, List, [], ◌∷◌, sum}
 
 unfoldable pub factorial : ℕ → ℕ

@@ -1,20 +1,31 @@
 -- Formal sums as lists of terms; a term is a key with a coefficient.
+-- What contracts of public calls say:
 --   IsExactTest same == `same` answers whether two keys are equal
 --   same_by cmp k l == the test of equality that the order cmp gives
 --   sum_at same k terms == the sum of the coefficients of the key k
 --   HaveSameSums same xs ys == each key has one sum in both lists
 --   HaveSameSaturatedSums same xs ys == the same for sums that may be out of range
---   sum_with f terms == the sum of the coefficients, each times the number that f gives for its key
 --   rekeyed h terms == the terms with h of their keys
 --   scaled c terms == the terms with c times their coefficients
 --   saturated_terms terms == the terms with the values of their coefficients
---   expanded step terms == each term replaced by the terms that `step` gives for its key, times its coefficient
---   products factor op xs ys == each term of xs times each term of ys, and times a factor that the keys give
---   joined_neighbours same terms == neighbours with equal keys made one term, their coefficients added as values
---   with_term cmp t terms == terms in ascending order of their keys with one more: added to that of an equal key, where there is one
---   collected cmp terms == the terms in ascending order of their keys, each key once, with the sum of its coefficients
+--   expanded step terms == each term replaced by the terms that `step` gives for its key, times its
+--       coefficient
+--   products_with factor op k ys == one term with the key k and the coefficient 1 times each term
+--       of ys
+--   products factor op xs ys == each term of xs times each term of ys, and times a factor that the
+--       keys give
+--   join_onto same t terms == the term t and the terms behind it, neighbours with equal keys made
+--       one, their coefficients added as values
+--   joined_neighbours same terms == the same of all terms
+--   with_term cmp t terms == terms in ascending order of their keys with one more: added to that of
+--       an equal key, where there is one
+--   collected cmp terms == the terms in ascending order of their keys, each key once, with the sum
+--       of its coefficients
 --   keys terms == the keys
---   IsCollected cmp terms == each key stands once, the keys ascend, and each coefficient is a value that is not 0
+--   IsCollected cmp terms == each key stands once, the keys ascend, and each coefficient is a value
+--       that is not 0
+-- Working notions of the code and of proofs:
+--   sum_with f terms == the sum of the coefficients, each times the number that f gives for its key
 use Rattle.std.specs.Prelude.{◌≡◌, ◌<◌, ◌≤◌, ℕ, ◌+◌, ◌*◌, Bool, true, cond, List, [], ◌∷◌, ◌++◌, map}
 use Rattle.std.specs.List.{AllByRecursion}
 use Rattle.std.specs.List.Sorted.{IsStrictlySortedBy}
@@ -36,8 +47,10 @@ sum_at same k (t ∷ ts) = cond (same t.0 k) t.1 0 + sum_at same k ts
 abbrev pub HaveSameSums : {K : Type 0} → (K → K → Bool) → List (K × ℕ) → List (K × ℕ) → Type 0
 HaveSameSums {K} same xs ys = (k : K) → sum_at same k xs ≡ sum_at same k ys
 
-abbrev pub HaveSameSaturatedSums : {K : Type 0} → (K → K → Bool) → List (K × ℕ) → List (K × ℕ) → Type 0
-HaveSameSaturatedSums {K} same xs ys = (k : K) → saturated (sum_at same k xs) ≡ saturated (sum_at same k ys)
+abbrev pub HaveSameSaturatedSums : {K : Type 0} → (K → K → Bool) → List (K × ℕ) → List (K × ℕ) →
+    Type 0
+HaveSameSaturatedSums {K} same xs ys = (k : K) →
+    saturated (sum_at same k xs) ≡ saturated (sum_at same k ys)
 
 abbrev pub sum_with : {K : Type 0} → (K → ℕ) → List (K × ℕ) → ℕ
 sum_with f [] = 0
@@ -60,16 +73,19 @@ expanded step [] = []
 expanded step (t ∷ ts) = scaled t.1 (step t.0) ++ expanded step ts
 
 -- one key with each term of the other list
-abbrev pub products_with : {K J L : Type 0} → (K → J → ℕ) → (K → J → L) → K → List (J × ℕ) → List (L × ℕ)
+abbrev pub products_with : {K J L : Type 0} → (K → J → ℕ) → (K → J → L) → K → List (J × ℕ) →
+    List (L × ℕ)
 products_with factor op k [] = []
 products_with factor op k (t ∷ ts) = (op k t.0, factor k t.0 * t.1) ∷ products_with factor op k ts
 
-abbrev pub products : {K J L : Type 0} → (K → J → ℕ) → (K → J → L) → List (K × ℕ) → List (J × ℕ) → List (L × ℕ)
+abbrev pub products : {K J L : Type 0} → (K → J → ℕ) → (K → J → L) → List (K × ℕ) → List (J × ℕ) →
+    List (L × ℕ)
 products factor op xs ys = expanded (λ k. products_with factor op k ys) xs
 
 abbrev pub join_onto : {K : Type 0} → (K → K → Bool) → K × ℕ → List (K × ℕ) → List (K × ℕ)
 join_onto same t [] = t ∷ []
-join_onto same t (u ∷ us) = cond (same u.0 t.0) (join_onto same (t.0, saturating_plus t.1 u.1) us) (t ∷ join_onto same u us)
+join_onto same t (u ∷ us) =
+    cond (same u.0 t.0) (join_onto same (t.0, saturating_plus t.1 u.1) us) (t ∷ join_onto same u us)
 
 abbrev pub joined_neighbours : {K : Type 0} → (K → K → Bool) → List (K × ℕ) → List (K × ℕ)
 joined_neighbours same [] = []
@@ -77,7 +93,8 @@ joined_neighbours same (t ∷ ts) = join_onto same t ts
 
 abbrev pub with_term : {K : Type 0} → (K → K → Ordering) → K × ℕ → List (K × ℕ) → List (K × ℕ)
 with_term cmp t [] = t ∷ []
-with_term cmp t (u ∷ us) = cond (is_gt (cmp t.0 u.0)) (u ∷ with_term cmp t us) (cond (is_eq (cmp t.0 u.0)) ((u.0, t.1 + u.1) ∷ us) (t ∷ u ∷ us))
+with_term cmp t (u ∷ us) = cond (is_gt (cmp t.0 u.0)) (u ∷ with_term cmp t us)
+    (cond (is_eq (cmp t.0 u.0)) ((u.0, t.1 + u.1) ∷ us) (t ∷ u ∷ us))
 
 abbrev pub collected : {K : Type 0} → (K → K → Ordering) → List (K × ℕ) → List (K × ℕ)
 collected cmp [] = []

@@ -1,4 +1,5 @@
--- Numbers up to 2^127 - 1, with one value for all numbers that are larger: the overflow, which is written as the number 2^127.
+-- Numbers up to 2^127 - 1, with one value for all numbers that are larger: the overflow, which is
+-- written as the number 2^127.
 --   overflow == 2^127, the value of every number that is out of range
 --   saturated n == n where n is in range, else the overflow
 --   saturating_plus a b == the sum of two values

@@ -1,8 +1,8 @@
 -- Sums over lists.
---   total f [x1, .., xm] == f x1 + .. + f xm
---   product_over f [x1, .., xm] == f x1 * .. * f xm
+--   total f xs == f x1 + .. + f xm, where x1 to xm are the members of xs
+--   product_over f xs == f x1 * .. * f xm
 --   counted_if b n == n where b holds, else 0
---   choices f [x1, .., xm] == all lists [y1, .., ym] with each yi from f xi, in lexicographic order
+--   choices f xs == all lists of one member each of f x1, .., f xm, in lexicographic order
 use Rattle.std.specs.Prelude.{ℕ, ◌+◌, ◌*◌, Bool, cond, List, [], ◌∷◌, map, flat_map}
 
 abbrev pub total : {X : Type 0} → (X → ℕ) → List X → ℕ

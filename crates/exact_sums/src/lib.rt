@@ -1,4 +1,5 @@
-//! Exact sums of numbers that may be out of range: values, multinomials and formal sums.
+//! Exact sums of numbers that may be out of range: values, multinomials and formal sums. They know
+//! nothing of trees, and the coproducts, constants and polynomials stand on them alike.
 #![tactic(auto)]
 
 mod laws;

@@ -7,7 +7,8 @@ ghost use Rattle.exact_sums.specs.Binomials.{binomial, multinomial};
 
 use crate::saturated::{OVERFLOW, Saturated};
 
-/// The value of `c * m / d` where `d` divides `c * m`. No number above that value is made on the way.
+/// The value of `c * m / d` where `d` divides `c * m`. No number above that value is made on the
+/// way.
 fn exact_quotient_of(c: u128, m: u32, d: u32) -> u128
     requires above { 0 < d }
     requires small { d ≤ MOST_DECORATIONS }

@@ -9,7 +9,8 @@ use std::marker::Model;
 /// The value of every number that is out of range: 2^127.
 pub(crate) const OVERFLOW: u128 = 170141183460469231731687303715884105728;
 
-/// A number from 0 to 2^127 - 1, or the overflow, which stands for every larger number. Contracts see it as a number, with 2^127 for the overflow.
+/// A number from 0 to 2^127 - 1, or the overflow, which stands for every larger number. Contracts
+/// see it as a number, with 2^127 for the overflow.
 #[derive(Clone, Copy, Debug, PartialEq, Eq)]
 pub struct Saturated {
     raw: u128,

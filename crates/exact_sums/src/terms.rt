@@ -45,7 +45,8 @@ pub fn all_in_range<K: Copy>(terms: &[(K, Saturated)])
     }
 }
 
-/// Collects a list of terms that is sorted by its keys: each key once, with the sum of its coefficients.
+/// Collects a list of terms that is sorted by its keys: each key once, with the sum of its
+/// coefficients.
 pub fn join_sorted<K: Copy + Ord>(terms: &mut Vec<(K, Saturated)>)
     requires exact { IsExactTest K.eq }
     requires sorted { IsSorted K.cmp (keys terms.old.items) }

@@ -45,11 +45,15 @@ pub not_none : (n : ℕ) → (n ≡ 0 → ⊥) → (n == 0) ≡ false
 not_none n h = grind (arith, nat_tests, h)
 
 -- a tree without edges, and one with edges
-pub within_bare : (ty : Types) (r : ℕ) (c : Content) (i : ℕ) (n : List ℕ) (es : List EdgeTo) → Holds c i (tree_over c.trees n es) → length es ≡ 0 → is_within ty (Some r) (tree_at c i) ≡ nat_le (scaled_size ty.scaling n) r
+pub within_bare : (ty : Types) (r : ℕ) (c : Content) (i : ℕ) (n : List ℕ) (es : List EdgeTo) →
+    Holds c i (tree_over c.trees n es) → length es ≡ 0 →
+    is_within ty (Some r) (tree_at c i) ≡ nat_le (scaled_size ty.scaling n) r
 within_bare ty r c i n [] h none = rw (at_holds c i (tree_over c.trees n []) h) refl
 within_bare ty r c i n (e ∷ es) h none = absurd (omega (arith, none))
 
-pub within_more : (ty : Types) (r : ℕ) (c : Content) (i : ℕ) (n : List ℕ) (es : List EdgeTo) → Holds c i (tree_over c.trees n es) → (length es ≡ 0 → ⊥) → is_within ty (Some r) (tree_at c i) ≡ false
+pub within_more : (ty : Types) (r : ℕ) (c : Content) (i : ℕ) (n : List ℕ) (es : List EdgeTo) →
+    Holds c i (tree_over c.trees n es) → (length es ≡ 0 → ⊥) →
+    is_within ty (Some r) (tree_at c i) ≡ false
 within_more ty r c i n [] h some = absurd (some refl)
 within_more ty r c i n (e ∷ es) h some = rw (at_holds c i (tree_over c.trees n (e ∷ es)) h) refl
 
@@ -58,12 +62,17 @@ integrated_root : (ty : Types) (n m : List ℕ) (es : List Labelled) → has_int
 integrated_root ty n m [] = refl
 integrated_root ty n m (e ∷ es) = ap (λ b. (is_within ty (moments_of ty e.kind.0) e.child || has_integrated ty e.child) || b) (integrated_root ty n m es)
 
-pub integrated_whole : (ty : Types) (c : Content) (i : ℕ) (n : List ℕ) (es : List EdgeTo) → Holds c i (tree_over c.trees n es) → has_integrated ty (tree_over c.trees [] es) ≡ has_integrated ty (tree_at c i)
+pub integrated_whole : (ty : Types) (c : Content) (i : ℕ) (n : List ℕ) (es : List EdgeTo) →
+    Holds c i (tree_over c.trees n es) →
+    has_integrated ty (tree_over c.trees [] es) ≡ has_integrated ty (tree_at c i)
 integrated_whole ty c i n es h = integrated_root ty [] n (map (edge_over c.trees) es) ∙ ap (has_integrated ty) (rw (at_holds c i (tree_over c.trees n es) h) refl)
 
 -- the root's decoration decides, or the noises, or the kernels
-pub root_decides : (ty : Types) (c : Content) (i : ℕ) (n : List ℕ) (es : List EdgeTo) → Holds c i (tree_over c.trees n es) → is_zero n ≡ false → true ≡ vanishes ty (tree_at c i)
+pub root_decides : (ty : Types) (c : Content) (i : ℕ) (n : List ℕ) (es : List EdgeTo) →
+    Holds c i (tree_over c.trees n es) → is_zero n ≡ false → true ≡ vanishes ty (tree_at c i)
 root_decides ty c i n es h e = rw (root_at c i n es h, e) refl
 
-pub rest_decides : (ty : Types) (c : Content) (i : ℕ) (n : List ℕ) (es : List EdgeTo) → Holds c i (tree_over c.trees n es) → is_zero n ≡ true → is_odd ty (tree_at c i) || has_integrated ty (tree_at c i) ≡ vanishes ty (tree_at c i)
+pub rest_decides : (ty : Types) (c : Content) (i : ℕ) (n : List ℕ) (es : List EdgeTo) →
+    Holds c i (tree_over c.trees n es) → is_zero n ≡ true →
+    is_odd ty (tree_at c i) || has_integrated ty (tree_at c i) ≡ vanishes ty (tree_at c i)
 rest_decides ty c i n es h e = rw (root_at c i n es h, e) refl

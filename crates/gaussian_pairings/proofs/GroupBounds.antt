@@ -33,7 +33,9 @@ kernel_none n e k = λ h. absurd (differ (sym (ap is_noise k) ∙ h))
     differ : false ≡ true → ⊥
     differ q = absurd cc
 
-entry_at : (n : ℕ) (es : List TypeEntry) (k : ℕ) → AllByRecursion (HasGroup n) es → is_noise_kind (option_map (λ e. e.kind) (slice_get es k)) ≡ true → unwrap_or (option_map (λ e. e.group) (slice_get es k)) 0 < n
+entry_at : (n : ℕ) (es : List TypeEntry) (k : ℕ) → AllByRecursion (HasGroup n) es →
+    is_noise_kind (option_map (λ e. e.kind) (slice_get es k)) ≡ true →
+    unwrap_or (option_map (λ e. e.group) (slice_get es k)) 0 < n
 entry_at n [] k a h = absurd cc
 entry_at n (e ∷ es) zero a h = a.0 h
 entry_at n (e ∷ es) (suc k) a h = entry_at n es k a.1 h

@@ -11,7 +11,8 @@ use Rattle.gaussian_pairings.specs.Listing.{paired, partners, pairings_by, pairi
 abbrev pub no_noise : NoiseEdge
 no_noise = record { number = 0; group = 0 }
 
-partners_same : (r s : List NoiseEdge → List (List Pair)) (n : ℕ) (x : NoiseEdge) (before after : List NoiseEdge) → ((ns : List NoiseEdge) → length ns ≤ n → r ns ≡ s ns) →
+partners_same : (r s : List NoiseEdge → List (List Pair)) (n : ℕ) (x : NoiseEdge) (before after : List NoiseEdge) →
+    ((ns : List NoiseEdge) → length ns ≤ n → r ns ≡ s ns) →
     length before + length after ≤ suc n → partners r x before after ≡ partners s x before after
 partners_same r s n x before [] same h = refl
 partners_same r s n x before (y ∷ after) same h =
@@ -38,7 +39,8 @@ partners_cut r x rest i lt =
     let taken : take (i + 1) rest ≡ take i rest ++ get_or rest i x ∷ [] = grind (arith, common_steps) in
     rw (first, taken) refl
 
-pub no_partner_left : (r : List NoiseEdge → List (List Pair)) (x : NoiseEdge) (rest : List NoiseEdge) (i : ℕ) → length rest ≤ i → partners r x (take i rest) (drop i rest) ≡ []
+pub no_partner_left : (r : List NoiseEdge → List (List Pair)) (x : NoiseEdge) (rest : List NoiseEdge) (i : ℕ) →
+    length rest ≤ i → partners r x (take i rest) (drop i rest) ≡ []
 no_partner_left r x rest i h = let none : drop i rest ≡ [] = grind (arith, common_steps) in rw none refl
 
 map_behind : (chosen more : List Pair) (pss : List (List Pair)) → map (λ ps. (chosen ++ more) ++ ps) pss ≡ map (λ ps. chosen ++ ps) (map (λ ps. more ++ ps) pss)
@@ -61,13 +63,15 @@ step_taken old new whole chosen x rest i lt inv is =
     ∙ rw (← partners_cut (pairings_by (length rest)) x rest i lt) inv)
 
 -- a partner of the group, and one of another group
-pub partner_taken : (old new : List (List Pair)) (chosen pairs : List Pair) (x y : NoiseEdge) (left others : List NoiseEdge) → y.group ≡ x.group → pairs ≡ chosen ++ (x.number, y.number) ∷ [] → left ≡ others →
+pub partner_taken : (old new : List (List Pair)) (chosen pairs : List Pair) (x y : NoiseEdge) (left others : List NoiseEdge) →
+    y.group ≡ x.group → pairs ≡ chosen ++ (x.number, y.number) ∷ [] → left ≡ others →
     new ≡ old ++ map (λ ps. pairs ++ ps) (pairings_of left) → new ≡ old ++ map (λ ps. chosen ++ ps) (paired x y (pairings_of others))
 partner_taken old new chosen pairs x y left others same pairs_are left_is is =
     let test : x.group == y.group ≡ true = grind (arith, nat_tests) in
     rw (test, is, pairs_are, ← left_is) (ap (λ (qss : List (List Pair)). old ++ qss) (map_behind chosen ((x.number, y.number) ∷ []) (pairings_of left)))
 
-pub partner_passed : (old : List (List Pair)) (chosen : List Pair) (x y : NoiseEdge) (pss : List (List Pair)) → (y.group ≡ x.group → ⊥) → old ≡ old ++ map (λ ps. chosen ++ ps) (paired x y pss)
+pub partner_passed : (old : List (List Pair)) (chosen : List Pair) (x y : NoiseEdge) (pss : List (List Pair)) →
+    (y.group ≡ x.group → ⊥) → old ≡ old ++ map (λ ps. chosen ++ ps) (paired x y pss)
 partner_passed old chosen x y pss other =
     let test : x.group == y.group ≡ false = grind (arith, nat_tests) in
     rw test (sym (append-nil old))

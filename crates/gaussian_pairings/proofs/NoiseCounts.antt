@@ -20,7 +20,8 @@ one_noise : (a : Bool) (x g : ℕ) → count_of nat_cmp g (cond a (x ∷ []) [])
 one_noise true x g = grind (arith, nat_tests)
 one_noise false x g = refl
 
-pub noises_graft : (ty : Types) (k : ℕ) (p : List ℕ) (c t : Plain) (g : ℕ) → noises_in ty (graft k p c t) g ≡ noise_here ty k g + noises_in ty c g + noises_in ty t g
+pub noises_graft : (ty : Types) (k : ℕ) (p : List ℕ) (c t : Plain) (g : ℕ) →
+    noises_in ty (graft k p c t) g ≡ noise_here ty k g + noises_in ty c g + noises_in ty t g
 noises_graft ty k p c t g =
     omega (arith, count_of-append nat_cmp g (cond (is_noise_type ty k) (group_of ty k ∷ []) []) (noise_groups ty c ++ noise_groups ty t), count_of-append nat_cmp g (noise_groups ty c) (noise_groups ty t), one_noise (is_noise_type ty k) (group_of ty k) g)
 
@@ -37,10 +38,14 @@ groups_root : (ty : Types) (n m : List ℕ) (es : List Labelled) → noise_group
 groups_root ty n m [] = refl
 groups_root ty n m (e ∷ es) = ap (λ (gs : List ℕ). cond (is_noise_type ty e.kind.0) (group_of ty e.kind.0 ∷ []) [] ++ (noise_groups ty e.child ++ gs)) (groups_root ty n m es)
 
-pub groups_whole : (ty : Types) (c : Content) (i : ℕ) (n : List ℕ) (es : List EdgeTo) → Holds c i (tree_over c.trees n es) → noise_groups ty (tree_over c.trees [] es) ≡ noise_groups ty (tree_at c i)
+pub groups_whole : (ty : Types) (c : Content) (i : ℕ) (n : List ℕ) (es : List EdgeTo) →
+    Holds c i (tree_over c.trees n es) →
+    noise_groups ty (tree_over c.trees [] es) ≡ noise_groups ty (tree_at c i)
 groups_whole ty c i n es h = groups_root ty [] n (map (edge_over c.trees) es) ∙ sym (ap (noise_groups ty) (at_holds c i (tree_over c.trees n es) h))
 
-pub noises_whole : (ty : Types) (c : Content) (i : ℕ) (n : List ℕ) (es : List EdgeTo) (g : ℕ) → Holds c i (tree_over c.trees n es) → noises_in ty (tree_over c.trees [] es) g ≡ noises_in ty (tree_at c i) g
+pub noises_whole : (ty : Types) (c : Content) (i : ℕ) (n : List ℕ) (es : List EdgeTo) (g : ℕ) →
+    Holds c i (tree_over c.trees n es) →
+    noises_in ty (tree_over c.trees [] es) g ≡ noises_in ty (tree_at c i) g
 noises_whole ty c i n es g h = ap (count_of nat_cmp g) (groups_whole ty c i n es h)
 
 pub noises_cut : (ty : Types) (c : Content) (es : List EdgeTo) (i : ℕ) (d : EdgeTo) (g : ℕ) → i < length es →

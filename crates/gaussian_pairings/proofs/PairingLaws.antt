@@ -88,7 +88,9 @@ pub record Partner (r : List NoiseEdge → List (List Pair)) (x : NoiseEdge) (be
   pub chosen : IsIn rest (r (before ++ (cut.before ++ cut.after)))
   pub is : (x.number, partner.number) ∷ rest ≡ ps
 
-pub from_paired : (x y : NoiseEdge) (pss : List (List Pair)) (ps : List Pair) → IsIn ps (paired x y pss) → (x.group ≡ y.group) × ((qs : List Pair) × IsIn qs pss × ((x.number, y.number) ∷ qs ≡ ps))
+pub from_paired : (x y : NoiseEdge) (pss : List (List Pair)) (ps : List Pair) →
+    IsIn ps (paired x y pss) →
+    (x.group ≡ y.group) × ((qs : List Pair) × IsIn qs pss × ((x.number, y.number) ∷ qs ≡ ps))
 from_paired x y pss ps h =
     (elim (x.group == y.group) as (λ b. x.group == y.group ≡ b → IsIn ps (cond b (map (λ qs. (x.number, y.number) ∷ qs) pss) []) → (x.group ≡ y.group) × ((qs : List Pair) × IsIn qs pss × ((x.number, y.number) ∷ qs ≡ ps))) [
       | true ↦ λ e k. (grind (arith, nat_tests), from_map (λ qs. (x.number, y.number) ∷ qs) ps pss k)
@@ -98,7 +100,8 @@ from_paired x y pss ps h =
 in_paired : (x y : NoiseEdge) (pss : List (List Pair)) (qs : List Pair) → x.group ≡ y.group → IsIn qs pss → IsIn ((x.number, y.number) ∷ qs) (paired x y pss)
 in_paired x y pss qs e h = let test : x.group == y.group ≡ true = grind (arith, nat_tests) in rw test (in_map (λ ps. (x.number, y.number) ∷ ps) qs pss h)
 
-pub from_partners : (r : List NoiseEdge → List (List Pair)) (x : NoiseEdge) (before after : List NoiseEdge) (ps : List Pair) → IsIn ps (partners r x before after) → Partner r x before after ps
+pub from_partners : (r : List NoiseEdge → List (List Pair)) (x : NoiseEdge) (before after : List NoiseEdge) (ps : List Pair) →
+    IsIn ps (partners r x before after) → Partner r x before after ps
 from_partners r x before [] ps h = absurd h
 from_partners r x before (y ∷ after) ps h =
     elim (from_append ps (paired x y (r (before ++ after))) (partners r x (before ++ y ∷ []) after) h) [
@@ -115,7 +118,9 @@ from_partners r x before (y ∷ after) ps h =
           }
     ]
 
-in_partners : (r : List NoiseEdge → List (List Pair)) (x y : NoiseEdge) (before b a : List NoiseEdge) (qs : List Pair) → x.group ≡ y.group → IsIn qs (r (before ++ (b ++ a))) → IsIn ((x.number, y.number) ∷ qs) (partners r x before (b ++ y ∷ a))
+in_partners : (r : List NoiseEdge → List (List Pair)) (x y : NoiseEdge) (before b a : List NoiseEdge) (qs : List Pair) →
+    x.group ≡ y.group → IsIn qs (r (before ++ (b ++ a))) →
+    IsIn ((x.number, y.number) ∷ qs) (partners r x before (b ++ y ∷ a))
 in_partners r x y before [] a qs e h = in_append_left ((x.number, y.number) ∷ qs) (paired x y (r (before ++ a))) (partners r x (before ++ y ∷ []) a) (in_paired x y (r (before ++ a)) qs e h)
 in_partners r x y before (z ∷ b) a qs e h =
     in_append_right ((x.number, y.number) ∷ qs) (paired x z (r (before ++ (b ++ y ∷ a)))) (partners r x (before ++ z ∷ []) (b ++ y ∷ a))
@@ -140,7 +145,9 @@ pub pair_equal : (p : Pair) → pair_order p p ≡ Equal
 pair_equal p = grind (arith, nat_tests)
 
 -- one more noise edge and its partner
-pub is_pairing-cons : (x : NoiseEdge) (xs : List NoiseEdge) (y : NoiseEdge) (c : Cut y xs) (qs : List Pair) → Ascend (x ∷ xs) → x.group ≡ y.group → IsPairing (c.before ++ c.after) qs → IsPairing (x ∷ xs) ((x.number, y.number) ∷ qs)
+pub is_pairing-cons : (x : NoiseEdge) (xs : List NoiseEdge) (y : NoiseEdge) (c : Cut y xs) (qs : List Pair) →
+    Ascend (x ∷ xs) → x.group ≡ y.group → IsPairing (c.before ++ c.after) qs →
+    IsPairing (x ∷ xs) ((x.number, y.number) ∷ qs)
 unfolding IsStrictlySortedBy
 is_pairing-cons x xs y c qs up group h =
     let there : IsIn y xs = subst (λ (zs : List NoiseEdge). IsIn y zs) (sym c.is) (in_there y c.before c.after) in
@@ -230,7 +237,8 @@ first_pair x xs p qs up h = elim h.pairs.0.noises.2 [
           (omega (arith, beyond r, later), omega (arith, beyond r, later, rises))),
     )
 
-pub rest_is_pairing : (x : NoiseEdge) (xs : List NoiseEdge) (p : Pair) (qs : List Pair) (f : FirstPair x xs p qs) → Ascend (x ∷ xs) → IsPairing (x ∷ xs) (p ∷ qs) → IsPairing (f.cut.before ++ f.cut.after) qs
+pub rest_is_pairing : (x : NoiseEdge) (xs : List NoiseEdge) (p : Pair) (qs : List Pair) (f : FirstPair x xs p qs) →
+    Ascend (x ∷ xs) → IsPairing (x ∷ xs) (p ∷ qs) → IsPairing (f.cut.before ++ f.cut.after) qs
 unfolding IsStrictlySortedBy
 rest_is_pairing x xs p qs f up h =
     record {

@@ -11,7 +11,9 @@ use Rattle.gaussian_pairings.specs.Pairings.{Pair, pair_order, pairing_order, nu
 use Rattle.gaussian_pairings.specs.Listing.{paired, partners, pairings_by, pairings_of}
 use Rattle.gaussian_pairings.proofs.PairingLaws.{Ascend, ascend_fewer, all_at, all_from, in_there, pair_equal, from_paired, from_partners, listed_is_pairing, pairing_is_listed}
 
-sorted_append : {X : Type 0} (R : X → X → Ordering) (xs ys : List X) → IsStrictlySortedBy R xs → IsStrictlySortedBy R ys → ((a b : X) → IsIn a xs → IsIn b ys → R a b ≡ Less) → IsStrictlySortedBy R (xs ++ ys)
+sorted_append : {X : Type 0} (R : X → X → Ordering) (xs ys : List X) → IsStrictlySortedBy R xs →
+    IsStrictlySortedBy R ys → ((a b : X) → IsIn a xs → IsIn b ys → R a b ≡ Less) →
+    IsStrictlySortedBy R (xs ++ ys)
 unfolding IsStrictlySortedBy
 sorted_append R [] ys h k cross = k
 sorted_append {X} R (x ∷ xs) ys h k cross = (
@@ -44,7 +46,9 @@ above_first y (x ∷ b) a h = above_first y b a h.1
 later_partner : (n a b : ℕ) (ps qs : List Pair) → a < b → pairing_order ((n, a) ∷ ps) ((n, b) ∷ qs) ≡ Less
 later_partner n a b ps qs h = let first : pair_order (n, a) (n, b) ≡ Less = grind (arith, nat_tests) in ap (λ (o : Ordering). ordering_then o (pairing_order ps qs)) first
 
-sorted_partners : (r : List NoiseEdge → List (List Pair)) (x : NoiseEdge) (before after : List NoiseEdge) → ((ns : List NoiseEdge) → Ascend ns → IsStrictlySortedBy pairing_order (r ns)) → Ascend (before ++ after) →
+sorted_partners : (r : List NoiseEdge → List (List Pair)) (x : NoiseEdge) (before after : List NoiseEdge) →
+    ((ns : List NoiseEdge) → Ascend ns → IsStrictlySortedBy pairing_order (r ns)) →
+    Ascend (before ++ after) →
     IsStrictlySortedBy pairing_order (partners r x before after)
 unfolding IsStrictlySortedBy
 sorted_partners r x before [] sorted up = tt
@@ -92,7 +96,9 @@ map_nothing [] = refl
 map_nothing (ps ∷ pss) = ap (λ (qss : List (List Pair)). ps ∷ qss) (map_nothing pss)
 
 -- what is put behind no pairing, with no pair chosen
-pub are_pairings : (gs : List ℕ) (ns : List NoiseEdge) (old pss : List (List Pair)) → ns ≡ numbered 1 gs → old ≡ [] → pss ≡ old ++ map (λ ps. [] ++ ps) (pairings_of ns) → ArePairings (numbered 1 gs) pss
+pub are_pairings : (gs : List ℕ) (ns : List NoiseEdge) (old pss : List (List Pair)) →
+    ns ≡ numbered 1 gs → old ≡ [] → pss ≡ old ++ map (λ ps. [] ++ ps) (pairings_of ns) →
+    ArePairings (numbered 1 gs) pss
 are_pairings gs ns old pss is none h =
     let listed : pss ≡ pairings_of (numbered 1 gs) = h ∙ rw (none, map_nothing (pairings_of ns), is) refl in
     rw listed (all_pairings gs)

@@ -29,7 +29,8 @@ members_among : (g : ℕ) (b a : List NoiseEdge) (y : NoiseEdge) → members g (
 members_among g [] a y = refl
 members_among g (x ∷ b) a y = omega (arith, members_among g b a y)
 
-members_cut : (g : ℕ) (x y : NoiseEdge) (xs : List NoiseEdge) (c : Cut y xs) → x.group ≡ y.group → members g (x ∷ xs) ≡ unit g x.group + unit g x.group + members g (c.before ++ c.after)
+members_cut : (g : ℕ) (x y : NoiseEdge) (xs : List NoiseEdge) (c : Cut y xs) → x.group ≡ y.group →
+    members g (x ∷ xs) ≡ unit g x.group + unit g x.group + members g (c.before ++ c.after)
 members_cut g x y xs c e = omega (arith, ap (λ (zs : List NoiseEdge). members g zs) c.is, members_among g c.before c.after y, ap (unit g) e)
 
 cut_length : (y : NoiseEdge) (xs : List NoiseEdge) (c : Cut y xs) → length xs ≡ suc (length (c.before ++ c.after))

@@ -1,14 +1,19 @@
--- Pairings of the noise edges of a tree: what the expectation of a product of Gaussian variables sums over (Isserlis).
+-- Pairings of the noise edges of a tree: what the expectation of a product of Gaussian variables
+-- sums over (Isserlis).
 --   numbered i gs == noise edges of the groups gs, numbered from i
 --   numbers ns == the numbers of the noise edges ns
 --   noise_edges ty t == the noise edges of t, numbered from 1 in preorder, each with its group
+--   Pair == the numbers of two noise edges
 --   ends ps == the numbers in the pairs ps
 --   pair_order, pairing_order == lexicographic order of pairs, and of lists of pairs
---   IsPair ns p == the smaller number of p stands first, and the two are those of noise edges of one group
---   IsPairing ns ps == the pairs ps are a partition of the noise edges ns into pairs within one group, written in order
+--   IsPair ns p == the smaller number of p stands first, and the two are those of noise edges of
+--       one group
+--   IsPairing ns ps == the pairs ps are a partition of the noise edges ns into pairs within one
+--       group, written in order
 --   ArePairings ns pss == pss are all pairings of ns, each once, in order
 --   pairs_of xs == the pairs of each of the pairings xs
---   IsRefused ns e == why there is no answer: there are more than 12 noise edges, or memory is wanted
+--   IsRefused ns e == why there is no answer: there are more than 12 noise edges
+--       (`MOST_PAIRED_NOISES`), or memory is wanted
 use Rattle.std.specs.Prelude.{◌≡◌, ◌<◌, ◌↔◌, ℕ, ◌+◌, List, [], ◌∷◌, map, length, ⊤}
 use Rattle.std.specs.List.{AllByRecursion}
 use Rattle.std.specs.List.Sorted.{IsStrictlySortedBy}
@@ -50,7 +55,8 @@ pairing_order = slice_cmp pair_order
 
 pub record IsPair (ns : List NoiseEdge) (p : Pair) : Type 0 where
   pub ascending : p.0 < p.1
-  pub noises : (a b : NoiseEdge) × IsIn a ns × IsIn b ns × (a.number ≡ p.0) × (b.number ≡ p.1) × (a.group ≡ b.group)
+  pub noises : (a b : NoiseEdge) × IsIn a ns × IsIn b ns × (a.number ≡ p.0) × (b.number ≡ p.1)
+      × (a.group ≡ b.group)
 
 pub record IsPairing (ns : List NoiseEdge) (ps : List Pair) : Type 0 where
   pub pairs : AllByRecursion (IsPair ns) ps

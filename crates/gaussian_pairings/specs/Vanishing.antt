@@ -1,17 +1,22 @@
 -- Trees whose expectation vanishes, by their shape and by what is declared of noises and kernels.
+-- What contracts of public calls say:
 --   is_noise_kind, is_noise_type ty k == the test whether type k is that of a noise
 --   noise_groups ty t == the groups of the noise edges of t, in preorder
---   noise_here ty k g == 1 where an edge of type k is a noise edge of the group g, else 0
 --   noises_in ty t g == how many noise edges of t are in the group g
 --   some_below n test == some number below n passes the test
 --   has_odd_group ty t == some noise group has an odd number of noise edges in t
 --   entry_in i m == the entry of the multiindex m in the direction i, counted from 1
---   sum_in i t == the sum of the entries in the direction i of the decorations of all nodes and edges of t
+--   sum_in i t == the sum of the entries in the direction i of the decorations of all nodes and
+--       edges of t
 --   has_odd_direction ty t == in some direction that may be reflected, that sum is odd
 --   is_odd ty t == t has an odd group, or an odd direction
---   is_within ty moments c == a moment number is declared, and c has no edges and a decoration of scaled size at most that
---   has_integrated ty t == some edge of t, of a kernel with a moment number, ends in a tree without edges whose decoration has at most that scaled size
+--   is_within ty moments c == a moment number is declared, and c has no edges and a decoration of
+--       scaled size at most that
+--   has_integrated ty t == some edge of t, of a kernel with a moment number, ends in a tree without
+--       edges whose decoration has at most that scaled size
 --   vanishes ty t == the decoration of the root of t is not 0, or t is odd, or it has such an edge
+-- Working notions of the code and of proofs:
+--   noise_here ty k g == 1 where an edge of type k is a noise edge of the group g, else 0
 use Rattle.std.specs.Prelude.{ℕ, zero, suc, ◌%◌, ◌==◌, ◌+◌, ◌-◌, nat_le, slice_index, Bool, false, not, ◌&&◌, ◌||◌, cond, List, [], ◌∷◌, ◌++◌, length}
 use Rattle.std.specs.List.{list_any}
 use Rattle.std.specs.Ordering.{nat_cmp}
@@ -34,7 +39,8 @@ is_noise_type ty k = is_noise_kind (kind_of ty k)
 -- the edge itself, then the edges above it, then the other edges of the root
 abbrev pub noise_groups : Types → Plain → List ℕ
 noise_groups ty (bare n) = []
-noise_groups ty (graft k p c t) = cond (is_noise_type ty k) (group_of ty k ∷ []) [] ++ (noise_groups ty c ++ noise_groups ty t)
+noise_groups ty (graft k p c t) = cond (is_noise_type ty k) (group_of ty k ∷ []) []
+    ++ (noise_groups ty c ++ noise_groups ty t)
 
 abbrev pub noise_here : Types → ℕ → ℕ → ℕ
 noise_here ty k g = cond (is_noise_type ty k && group_of ty k == g) 1 0
@@ -69,7 +75,8 @@ is_within ty (Some r) (graft k p c t) = false
 
 abbrev pub has_integrated : Types → Plain → Bool
 has_integrated ty (bare n) = false
-has_integrated ty (graft k p c t) = (is_within ty (moments_of ty k) c || has_integrated ty c) || has_integrated ty t
+has_integrated ty (graft k p c t) = (is_within ty (moments_of ty k) c || has_integrated ty c)
+    || has_integrated ty t
 
 abbrev pub vanishes : Types → Plain → Bool
 vanishes ty t = not (is_zero (root_of t)) || (is_odd ty t || has_integrated ty t)

@@ -18,7 +18,8 @@ pub struct NoiseEdge {
 
 /// Puts the group of an edge behind others, where it is a noise edge.
 fn put_group(types: &Types, kind: TypeId, groups: &mut Vec<u8>) -> Result<(), AllocError>
-    ensures { OnOk result (groups.new.items ≡ groups.old.items ++ cond (is_noise_type types.now kind.0) (group_of types.now kind.0 ∷ []) []) }
+    ensures { OnOk result (groups.new.items ≡ groups.old.items
+        ++ cond (is_noise_type types.now kind.0) (group_of types.now kind.0 ∷ []) []) }
 {
     if let Some(entry) = types.list.get(kind.0 as usize) {
         if entry.kind == Kind::Noise {
@@ -36,7 +37,8 @@ pub fn put_groups(
     groups: &mut Vec<u8>,
 ) -> Result<(), AllocError>
     requires { id.0 < length pool.now.trees }
-    ensures { OnOk result (groups.new.items ≡ groups.old.items ++ noise_groups types.now (tree_at pool.now id.0)) }
+    ensures { OnOk result (groups.new.items ≡ groups.old.items
+        ++ noise_groups types.now (tree_at pool.now id.0)) }
 {
     let (_, edges) = pool.node(id);
     for e in edges {

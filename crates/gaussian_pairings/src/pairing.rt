@@ -14,8 +14,9 @@ use tree_pool::{Pool, TreeId};
 
 const MOST_NOISES: usize = 12;
 
-/// A partition of the noise edges of a tree into pairs within one noise group. Noise edges are numbered from 1 in preorder. In each pair the smaller number stands
-/// first, and the pairs are in order.
+/// A partition of the noise edges of a tree into pairs within one noise group. Noise edges are
+/// numbered from 1 in preorder. In each pair the smaller number stands first, and the pairs are in
+/// order.
 #[derive(Debug, Drop)]
 pub struct Pairing {
     pub pairs: Items<(u16, u16)>,
@@ -24,7 +25,7 @@ pub struct Pairing {
 /// Why there are no pairings.
 #[derive(Clone, Copy, Debug, PartialEq, Eq, Error)]
 pub enum PairingError {
-    /// The tree has more than 12 noise edges.
+    /// The tree has more than 12 noise edges (`MOST_PAIRED_NOISES`).
     #[error("{count} noise edges are too many for pairings")]
     TooManyNoises { count: u32 },
     /// Memory is wanted.
@@ -56,7 +57,8 @@ fn put_pairing(
 /// The noise edges but the one at this place.
 fn without(alloc: Global, noises: &[NoiseEdge], place: usize) -> Result<Vec<NoiseEdge>, AllocError>
     requires { place < length noises.now }
-    ensures { IfOk result (λ others. others.items ≡ take place noises.now ++ drop (place + 1) noises.now) }
+    ensures { IfOk result (λ others. others.items ≡ take place noises.now
+        ++ drop (place + 1) noises.now) }
 {
     let mut others = Vec::new(alloc);
     others.extend_from_slice(&noises[..place])?;
@@ -78,8 +80,8 @@ fn with_pair(
     Ok(pairs)
 }
 
-/// Puts behind others the pairings in which the first of the noise edges that are left is paired with the one at this place of the rest, where the two are of one
-/// group.
+/// Puts behind others the pairings in which the first of the noise edges that are left is paired
+/// with the one at this place of the rest, where the two are of one group.
 #[cycle(put_pairings)]
 fn put_partner(
     alloc: Global,
@@ -90,7 +92,9 @@ fn put_partner(
     all: &mut Vec<Pairing>,
 ) -> Result<(), AllocError>
     requires { place < length rest.now }
-    ensures { OnOk result (pairs_of all.new.items ≡ pairs_of all.old.items ++ map (λ ps. chosen.now ++ ps) (paired first (slice_index_or rest.now place first) (pairings_of (take place rest.now ++ drop (place + 1) rest.now)))) }
+    ensures { OnOk result (pairs_of all.new.items ≡ pairs_of all.old.items
+        ++ map (λ ps. chosen.now ++ ps) (paired first (slice_index_or rest.now place first)
+        (pairings_of (take place rest.now ++ drop (place + 1) rest.now)))) }
 {
     let partner = rest[place];
     if partner.group != first.group {
@@ -102,8 +106,8 @@ fn put_partner(
     Ok(())
 }
 
-/// Puts the pairings of the noise edges that are left behind others, each behind the pairs that are chosen: the first noise edge is paired with each later one of
-/// its group in turn.
+/// Puts the pairings of the noise edges that are left behind others, each behind the pairs that are
+/// chosen: the first noise edge is paired with each later one of its group in turn.
 #[cycle(put_pairings)]
 fn put_pairings(
     alloc: Global,
@@ -111,7 +115,8 @@ fn put_pairings(
     left: &[NoiseEdge],
     all: &mut Vec<Pairing>,
 ) -> Result<(), AllocError>
-    ensures { OnOk result (pairs_of all.new.items ≡ pairs_of all.old.items ++ map (λ ps. chosen.now ++ ps) (pairings_of left.now)) }
+    ensures { OnOk result (pairs_of all.new.items ≡ pairs_of all.old.items
+        ++ map (λ ps. chosen.now ++ ps) (pairings_of left.now)) }
 {
     let Some((first, rest)) = left.split_first() else {
         return put_pairing(alloc, chosen, all);
@@ -122,9 +127,12 @@ fn put_pairings(
     Ok(())
 }
 
-/// All pairings of the noise edges of a tree, each once, in lexicographic order: what the expectation of a product of Gaussian variables sums over (Isserlis).
-/// For `[u[xi]*u[xi]*u[xi]*u[xi]]` they are `(1,2)(3,4)`, `(1,3)(2,4)` and `(1,4)(2,3)`; a tree without noises has the one empty pairing. Fails with `TooManyNoises`
-/// exactly where the tree has more than 12 noise edges, with their number, and for want of memory. The pool is one that was made with these types.
+/// All pairings of the noise edges of a tree, each once, in lexicographic order: what the
+/// expectation of a product of Gaussian variables sums over (Isserlis). For
+/// `[u[xi]*u[xi]*u[xi]*u[xi]]` they are `(1,2)(3,4)`, `(1,3)(2,4)` and `(1,4)(2,3)`; a tree without
+/// noises has the one empty pairing. Fails with `TooManyNoises` exactly where the tree has more
+/// than 12 noise edges (`MOST_PAIRED_NOISES`), with their number, and for want of memory. The pool
+/// is one that was made with these types.
 pub fn pairings(
     alloc: Global,
     types: &Types,
@@ -133,7 +141,8 @@ pub fn pairings(
 ) -> Result<Vec<Pairing>, PairingError>
     requires known { id.0 < length pool.now.trees }
     requires types { pool.now.types ≡ types.now }
-    ensures pairings { IfOk result (λ all. ArePairings (noise_edges types.now (tree_at pool.now id.0)) (pairs_of all.items)) }
+    ensures pairings { IfOk result
+        (λ all. ArePairings (noise_edges types.now (tree_at pool.now id.0)) (pairs_of all.items)) }
     ensures few { IfOk result (λ _. length (noise_edges types.now (tree_at pool.now id.0)) ≤ 12) }
     ensures refusal { IfErr result (IsRefused (noise_edges types.now (tree_at pool.now id.0))) }
 {

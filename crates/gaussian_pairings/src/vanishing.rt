@@ -79,7 +79,8 @@ fn has_odd_direction(types: &Types, pool: &Pool<'_>, id: TreeId) -> bool
     false
 }
 
-/// Whether a tree has an odd number of noise edges in some group, or an odd sum of entries in some direction that may be reflected.
+/// Whether a tree has an odd number of noise edges in some group, or an odd sum of entries in some
+/// direction that may be reflected.
 fn is_odd(types: &Types, pool: &Pool<'_>, id: TreeId) -> bool
     requires { id.0 < length pool.now.trees }
     ensures { result ≡ is_odd types.now (tree_at pool.now id.0) }
@@ -126,9 +127,11 @@ fn has_integrated(types: &Types, pool: &Pool<'_>, id: TreeId) -> bool
     false
 }
 
-/// Whether the expectation of a tree is 0 by its shape and by what the types declare: the decoration of its root is not 0; some noise group has an odd number of noise
-/// edges in it; in some direction that may be reflected, the entries of all its decorations have an odd sum; or some edge of a kernel with a moment number ends in a tree
-/// without edges whose decoration has at most that scaled size. Takes no memory. The pool is one that was made with these types.
+/// Whether the expectation of a tree is 0 by its shape and by what the types declare: the
+/// decoration of its root is not 0; some noise group has an odd number of noise edges in it; in
+/// some direction that may be reflected, the entries of all its decorations have an odd sum; or
+/// some edge of a kernel with a moment number ends in a tree without edges whose decoration has at
+/// most that scaled size. Takes no memory. The pool is one that was made with these types.
 pub fn vanishes(types: &Types, pool: &Pool<'_>, id: TreeId) -> bool
     requires known { id.0 < length pool.now.trees }
     requires types { pool.now.types ≡ types.now }

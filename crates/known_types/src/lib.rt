@@ -62,7 +62,8 @@ fn one_noise(
     })
 }
 
-/// The types of the KPZ equation: two directions of scaling 2 and 1, a noise `xi` of degree -3/2-k, a kernel `u` of degree 2.
+/// The types of the KPZ equation: two directions of scaling 2 and 1, a noise `xi` of degree -3/2-k,
+/// a kernel `u` of degree 2.
 #[tactic(auto, using(crate::proofs::KnownTypes::kpz_types))]
 pub fn kpz_types(alloc: Global) -> Result<Types, AllocError>
     ensures value { IfOk result (λ ty. ty ≡ kpz) }
@@ -83,7 +84,8 @@ pub fn kpz_symmetric_types(alloc: Global) -> Result<Types, AllocError>
     one_noise(alloc, 2, [2, 1, 0, 0, 0], KPZ_NOISE, None, reflect)
 }
 
-/// The types of the dynamic Phi^4 model in three dimensions: four directions of scaling 2, 1, 1 and 1, a noise `xi` of degree -5/2-k, a kernel `u` of degree 2.
+/// The types of the dynamic Phi^4 model in three dimensions: four directions of scaling 2, 1, 1 and
+/// 1, a noise `xi` of degree -5/2-k, a kernel `u` of degree 2.
 #[tactic(auto, using(crate::proofs::KnownTypes::phi43_types))]
 pub fn phi43_types(alloc: Global) -> Result<Types, AllocError>
     ensures value { IfOk result (λ ty. ty ≡ phi43) }
@@ -151,7 +153,8 @@ fn two_noises(alloc: Global, group: u8, groups: Items<Name>) -> Result<Types, Al
     })
 }
 
-/// Types with two noises `xi` and `eta` that are not correlated: each is in a noise group of its own. The rest is as in the KPZ equation.
+/// Types with two noises `xi` and `eta` that are not correlated: each is in a noise group of its
+/// own. The rest is as in the KPZ equation.
 #[tactic(auto, using(crate::proofs::KnownTypes::apart_types))]
 pub fn apart_types(alloc: Global) -> Result<Types, AllocError>
     ensures value { IfOk result (λ ty. ty ≡ apart) }

@@ -50,7 +50,9 @@ within_fits x n h lt =
 pub sum_small : (x y : ℤ) (m n : ℕ) → IsWithin x m → IsWithin y n → m + n ≤ 100000000000000000000000000000000000000 → FitsSigned w128 (x +ℤ y)
 sum_small x y m n h k lt = within_fits (x +ℤ y) (m + n) (within_plus x y m n (m + n) h k (omega arith)) lt
 
-pub gap_small : (x y z b u w : ℤ) → IsWithin x 20000000 → IsWithin y 20000000000000000000000000000000000000 → IsWithin z 20000000 → IsWithin b 20000000 → u ≡ pos 0 → w ≡ pos 0 →
+pub gap_small : (x y z b u w : ℤ) → IsWithin x 20000000 →
+    IsWithin y 20000000000000000000000000000000000000 → IsWithin z 20000000 → IsWithin b 20000000 →
+    u ≡ pos 0 → w ≡ pos 0 →
     IsSmall record { a = (x +ℤ y) -ℤ z; b = (b +ℤ u) -ℤ w }
 gap_small x y z b u w h k l m hu hw = record {
   a = within_minus (x +ℤ y) z 20000000000000000000000000000020000000 20000000 small (within_plus x y 20000000 20000000000000000000000000000000000000 20000000000000000000000000000020000000 h k (omega arith)) l (omega arith);

@@ -1,4 +1,5 @@
--- The degree of a tree with the charges on it is at least what the bounds of its root's edge types leave.
+-- The degree of a tree with the charges on it is at least what the bounds of its root's edge types
+-- leave.
 use Rattle.std.proofs.Common.{◌≡◌, ℕ, ◌+◌, ◌*◌, ◌≤◌, ℤ, pos, ◌+ℤ◌, ◌≤ℤ◌, List, [], ◌∷◌, sum, refl, subst, inl, inr, arith}
 use Rattle.std.specs.Ordering.{is_gt}
 use Rattle.std.specs.List.{All}
@@ -39,7 +40,8 @@ large-count : (q : Count) (t : Plain) → IsLargeFor q t → most_of q ≤ count
 large-count Edges t h = omega (arith, h)
 large-count Decorations t h = omega (arith, h)
 
-charged-put_label : (ty : Types) (c : Charge) (bounds : List ℤ) (e : EdgeLabel) (es : List EdgeLabel) → charged_sum ty c bounds (put_label e es) ≡ charged_edge ty c bounds e +ℤ charged_sum ty c bounds es
+charged-put_label : (ty : Types) (c : Charge) (bounds : List ℤ) (e : EdgeLabel) (es : List EdgeLabel) →
+    charged_sum ty c bounds (put_label e es) ≡ charged_edge ty c bounds e +ℤ charged_sum ty c bounds es
 charged-put_label ty c bounds e [] = refl
 charged-put_label ty c bounds e (f ∷ fs) =
     let later : charged_sum ty c bounds (f ∷ put_label e fs) ≡ charged_edge ty c bounds e +ℤ charged_sum ty c bounds (f ∷ fs) = let rest = charged-put_label ty c bounds e fs in omega (arith, ints) in
@@ -69,7 +71,9 @@ module _ (eq : Equation) (rule : Rule) (types : AreTypes eq.types) (unit : ℕ) 
   node_charges Decorations n h = decorations n h
 
   -- above an edge
-  above_charges : (k : ℕ) (t : Plain) → IsAllowedAbove eq.types rule k t → HasCharges t (node_type_of t) → (bound_at bounds k +ℤ pos (charges t)) ≤ℤ fine ((type_degree eq.types k).a +ℤ (degree_of eq.types t).a)
+  above_charges : (k : ℕ) (t : Plain) → IsAllowedAbove eq.types rule k t →
+      HasCharges t (node_type_of t) →
+      (bound_at bounds k +ℤ pos (charges t)) ≤ℤ fine ((type_degree eq.types k).a +ℤ (degree_of eq.types t).a)
   above_charges k t (inl noise) h =
       let here : HasCharges t [] = subst (HasCharges t) noise.1 h in
       let most = low.below k in

@@ -28,7 +28,9 @@ product_more : (u den s m : ℕ) → u ≤ den * s → u * m ≤ den * s * m
 product_more u den s m h = let same : m ≤ m = omega arith in mul-le-mul h same
 
 -- each entry adds at least the unit
-size_least : (u den d : ℕ) (ss ms : List ℕ) → length ss ≡ length ms → AllByRecursion (λ x. x ≡ 0) (drop d ms) → ((i : ℕ) → i < d → u ≤ den * slice_index ss i) → u * sum ms ≤ den * scaled_size ss ms
+size_least : (u den d : ℕ) (ss ms : List ℕ) → length ss ≡ length ms →
+    AllByRecursion (λ x. x ≡ 0) (drop d ms) → ((i : ℕ) → i < d → u ≤ den * slice_index ss i) →
+    u * sum ms ≤ den * scaled_size ss ms
 size_least u den d ss [] l z h = let none : u * sum [] ≡ 0 = omega arith in omega (arith, none)
 size_least u den d [] (m ∷ ms) l z h = absurd (omega arith)
 size_least u den zero (s ∷ ss) (m ∷ ms) l z h = let none : sum (m ∷ ms) ≡ 0 = sum_zero (m ∷ ms) z in rw none (omega arith)
@@ -44,7 +46,8 @@ module _ (ty : Types) (types : AreTypes ty) (unit : ℕ) (is : IsUnit ty unit) w
   pub node_least : (n : List ℕ) → IsMultiIndex ty.dims n → unit * sum n ≤ size_in_units ty n
   node_least n h = size_least unit (unsigned_abs ty.units.den) ty.dims ty.scaling n (types.scaling.entries ∙ sym h.entries) h.rest is.least
 
-  pub strip_degree : (t : Plain) → HasTypes ty t → (((degree_of ty (strip t)).a +ℤ pos (unit * node_sum t)) ≤ℤ (degree_of ty t).a) × ((degree_of ty (strip t)).b ≡ (degree_of ty t).b)
+  pub strip_degree : (t : Plain) → HasTypes ty t →
+      (((degree_of ty (strip t)).a +ℤ pos (unit * node_sum t)) ≤ℤ (degree_of ty t).a) × ((degree_of ty (strip t)).b ≡ (degree_of ty t).b)
   strip_degree (bare n) h =
       let none : (degree_of ty (bare zeros)).a ≡ pos 0 = ap (λ (d : Degree). d.a) (zeros_degree ty) in
       let least = node_least n h in

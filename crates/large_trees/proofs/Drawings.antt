@@ -1,4 +1,5 @@
--- Drawn trees conform, and each canonical tree that conforms is drawn once its nodes are left undecorated.
+-- Drawn trees conform, and each canonical tree that conforms is drawn once its nodes are left
+-- undecorated.
 use Rattle.std.proofs.Common.{◌≡◌, ℕ, zero, suc, ◌+◌, ◌<◌, false, is_lt, get_or, List, [], ◌∷◌, length, map, sum, refl, sym, ap, ◌∙◌, subst, inl, inr, arith}
 use Rattle.equations.specs.declared.equation.Equation.{Equation}
 use Rattle.equations.specs.EdgeTypes.{edge_type_order, IsInOrder}
@@ -39,7 +40,9 @@ pub roots-canonical : (t : Plain) → IsCanonical t → node_type_of t ≡ root_
 roots-canonical (bare n) h = refl
 roots-canonical (graft k p c t) h = node_type-first k p c t h ∙ ap (λ (es : List EdgeLabel). (k, p) ∷ es) (roots-canonical t h.1)
 
-sorted_at : (es : List EdgeType) → IsInOrder (map pair_of es) → (k : ℕ) (d : EdgeLabel) → k + 1 < length (map label es) → is_lt (edge_label_order (get_or (map label es) (k + 1) d) (get_or (map label es) k d)) ≡ false
+sorted_at : (es : List EdgeType) → IsInOrder (map pair_of es) → (k : ℕ) (d : EdgeLabel) →
+    k + 1 < length (map label es) →
+    is_lt (edge_label_order (get_or (map label es) (k + 1) d) (get_or (map label es) k d)) ≡ false
 sorted_at [] h k d lt = absurd (omega (arith, lt))
 sorted_at (e ∷ []) h k d lt = absurd (omega (arith, lt))
 sorted_at (e ∷ f ∷ es) h zero d lt = h 0 (pair_of e) (omega arith) (omega arith)
@@ -47,7 +50,8 @@ sorted_at (e ∷ f ∷ es) h (suc k) d lt =
     let next : suc k + 1 ≡ suc (k + 1) = omega arith in
     rw next (sorted_at (f ∷ es) (sorted-rest edge_type_order edge_type_order_total (pair_of e) (map pair_of (f ∷ es)) h) k d (omega (arith, lt)))
 
-pub labels_sorted : (eq : Equation) (rule : Rule) (row : RuleRow) (n : NodeType) → IsRule eq rule → IsIn row rule.rows → IsIn n row.nodes → IsInLabelOrder (labels n)
+pub labels_sorted : (eq : Equation) (rule : Rule) (row : RuleRow) (n : NodeType) → IsRule eq rule →
+    IsIn row rule.rows → IsIn n row.nodes → IsInLabelOrder (labels n)
 labels_sorted eq rule row n f i m = λ k d l lt. sorted_at n.edges ((f.normal row i).in_order n m) k d lt
 
 module _ (eq : Equation) (rule : Rule) where

@@ -47,7 +47,8 @@ abbrev pub AreFit : Equation → List EdgeLabel → Type 0
 AreFit eq [] = Unit {0}
 AreFit eq (e ∷ es) = (e.0 < length eq.types.list) × IsMultiIndex eq.types.dims e.1 × AreFit eq es
 
-edges_fit : (eq : Equation) (es : List EdgeType) → All (λ e. e.kind.0 < length eq.types.list) es → All (λ e. IsMultiIndex eq.types.dims e.p.entries) es → AreFit eq (map label es)
+edges_fit : (eq : Equation) (es : List EdgeType) → All (λ e. e.kind.0 < length eq.types.list) es →
+    All (λ e. IsMultiIndex eq.types.dims e.p.entries) es → AreFit eq (map label es)
 edges_fit eq [] h k = tt
 edges_fit eq (e ∷ es) h k =
     (h 0 e (omega arith), k 0 e (omega arith), edges_fit eq es (All-tail (λ e. e.kind.0 < length eq.types.list) e es h) (All-tail (λ e. IsMultiIndex eq.types.dims e.p.entries) e es k))
@@ -70,7 +71,9 @@ class_empty : (q : Count) → class_of q empty_tree ≡ 0
 class_empty q = omega arith
 
 module _ (eq : Equation) (rule : Rule) (q : Count) where
-  pub partial_tree : (r : ℕ) (cells : List Cells) → AreCells eq rule q r cells → (es : List EdgeLabel) → AreFit eq es → (m : ℕ) (v : Excess) → IsPartial q cells es m v → IsTree eq rule q r es m v
+  pub partial_tree : (r : ℕ) (cells : List Cells) → AreCells eq rule q r cells →
+      (es : List EdgeLabel) → AreFit eq es → (m : ℕ) (v : Excess) → IsPartial q cells es m v →
+      IsTree eq rule q r es m v
   partial_tree r cells h [] f m v p = record {
     tree = empty_tree;
     drawn = refl;
@@ -94,7 +97,9 @@ module _ (eq : Equation) (rule : Rule) (q : Count) where
         value = graft_excess eq e.0 e.1 c.child t.tree ∙ ap (λ (x : Excess). excess_plus x (planted_excess eq e.0 c.child)) t.value ∙ ap (excess_plus p.1) c.value ∙ sym p.3.4;
       }
 
-  pub tree_partial : IsSubcritical eq rule → (r : ℕ) (cells : List Cells) → AreCells eq rule q r cells → (t : Plain) → IsDrawn eq rule t → height t ≤ r → (tree_excess eq t).a ≤ℤ pos most_excess →
+  pub tree_partial : IsSubcritical eq rule → (r : ℕ) (cells : List Cells) →
+      AreCells eq rule q r cells → (t : Plain) → IsDrawn eq rule t → height t ≤ r →
+      (tree_excess eq t).a ≤ℤ pos most_excess →
       (u : Excess) × IsPartial q cells (root_labels t) (class_of q t) u × IsAtMost u (tree_excess eq t)
   tree_partial sub r cells h (bare n) d low few =
       let value : tree_excess eq (bare n) ≡ no_excess = ap (λ (m : List ℕ). tree_excess eq (bare m)) d ∙ bare_excess eq in
@@ -157,7 +162,9 @@ module _ (eq : Equation) (rule : Rule) (q : Count) where
           subst (IsAtMost (excess_plus (gap_of eq k n) u.0)) (sym is ∙ p.value) (at_most_plus (gap_of eq k n) u.0 (gap_of eq k n) (tree_excess eq p.child) (at_most_self (gap_of eq k n)) u.2),
         )
 
-  pub round_cells : IsEquation eq → IsRule eq rule → IsSubcritical eq rule → (r : ℕ) (cells next : List Cells) → AreCells eq rule q r cells → IsRound eq rule q cells next → AreCells eq rule q (suc r) next
+  pub round_cells : IsEquation eq → IsRule eq rule → IsSubcritical eq rule →
+      (r : ℕ) (cells next : List Cells) → AreCells eq rule q r cells →
+      IsRound eq rule q cells next → AreCells eq rule q (suc r) next
   round_cells e f sub r cells next h round k lt =
       least_same (HasExcess eq rule q cells k) (HasLow eq rule q (suc r) k) (line_at next k)
       (λ m v p few. elim p [ inl z ↦ noise_low e f sub r cells h k m v z | inr w ↦ row_low e f sub r cells h k w.0 w.2.1.0 m v w.1 w.2.0 w.2.1.1 w.2.1.2 ])
@@ -168,7 +175,9 @@ module _ (eq : Equation) (rule : Rule) (q : Count) where
       (round k lt)
 
   -- a round that changes nothing
-  pub fixed_cells : IsEquation eq → IsRule eq rule → IsSubcritical eq rule → (n r : ℕ) (cells : List Cells) → AreCells eq rule q r cells → IsRound eq rule q cells cells → AreCells eq rule q (n + r) cells
+  pub fixed_cells : IsEquation eq → IsRule eq rule → IsSubcritical eq rule →
+      (n r : ℕ) (cells : List Cells) → AreCells eq rule q r cells → IsRound eq rule q cells cells →
+      AreCells eq rule q (n + r) cells
   fixed_cells e f sub zero r cells h round = let same : 0 + r ≡ r = omega arith in rw same h
   fixed_cells e f sub (suc n) r cells h round =
       let same : suc n + r ≡ suc (n + r) = omega arith in rw same (round_cells e f sub (n + r) cells cells (fixed_cells e f sub n r cells h round) round)
@@ -202,7 +211,9 @@ module _ (eq : Equation) (rule : Rule) (q : Count) where
   }
 
   -- the rounds may stop where nothing changes
-  pub stopped_exact : IsEquation eq → IsRule eq rule → IsSubcritical eq rule → (r : ℕ) (cells next : List Cells) → r < suc most_excess → AreCells eq rule q r cells → IsRound eq rule q cells next → cells ≡ next → AreExact eq rule q next
+  pub stopped_exact : IsEquation eq → IsRule eq rule → IsSubcritical eq rule →
+      (r : ℕ) (cells next : List Cells) → r < suc most_excess → AreCells eq rule q r cells →
+      IsRound eq rule q cells next → cells ≡ next → AreExact eq rule q next
   stopped_exact e f sub r cells next few h round same =
       let fixed : IsRound eq rule q cells cells = subst (IsRound eq rule q cells) (sym same) round in
       let all = fixed_cells e f sub (suc most_excess - r) r cells h fixed in

@@ -43,7 +43,9 @@ use Rattle.large_trees.proofs.Drawings.{node_type-roots, roots-canonical, labels
 use Rattle.large_trees.proofs.Decorated.{strip_degree, unplanted_lack, lack_unplanted, single, single_length, single_rest, single_sum, single_size, unit_above}
 
 -- the regularity of a node type is not far below 0
-pub regularity_low : (eq : Equation) (rule : Rule) (row : RuleRow) (n : NodeType) → IsEquation eq → IsSubcritical eq rule → IsIn row rule.rows → IsIn n row.nodes → pos 0 ≤ℤ (pos most_excess +ℤ node_regularity eq n)
+pub regularity_low : (eq : Equation) (rule : Rule) (row : RuleRow) (n : NodeType) → IsEquation eq →
+    IsSubcritical eq rule → IsIn row rule.rows → IsIn n row.nodes →
+    pos 0 ≤ℤ (pos most_excess +ℤ node_regularity eq n)
 regularity_low eq rule row n e sub i m =
     let gap = gap_above eq rule row n sub i m in
     let reg = regularity_within eq row.kernel.0 e in
@@ -67,7 +69,8 @@ lacks_for Decorations t h =
 
 module _ (eq : Equation) (rule : Rule) (e : IsEquation eq) (f : IsRule eq rule) (sub : IsSubcritical eq rule) (unit : ℕ) (u : IsUnit eq.types unit) where
   -- the degree at the root, with fewer decorations than the tree has
-  root_least : (q : Count) (t : Plain) (n : NodeType) (v : Excess) (l : ℕ) → labels n ≡ root_labels (strip t) → IsAtMost v (tree_excess eq (strip t)) → l ≤ node_sum t →
+  root_least : (q : Count) (t : Plain) (n : NodeType) (v : Excess) (l : ℕ) →
+      labels n ≡ root_labels (strip t) → IsAtMost v (tree_excess eq (strip t)) → l ≤ node_sum t →
       (((degree_of eq.types (strip t)).a +ℤ pos (unit * node_sum t)) ≤ℤ (degree_of eq.types t).a) → (degree_of eq.types (strip t)).b ≡ (degree_of eq.types t).b → IsAtMostBy (degree_of eq.types t) degree_zero →
       IsAtMost (degree_at_root (node_regularity eq n) unit v l) no_excess
   root_least q t n v l same h most a b below =
@@ -81,7 +84,9 @@ module _ (eq : Equation) (rule : Rule) (e : IsEquation eq) (f : IsRule eq rule) 
         tied = λ tie. let ht = h.tied (omega (arith, ints)) in let zt = below.tied (omega (arith, ints)) in omega (arith, ints);
       }
 
-  pub large_found : (q : Count) (cells : List Cells) (t : Plain) → AreExact eq rule q cells → IsCandidate eq rule t → degree_order (degree_of eq.types t) degree_zero ≢ Greater → IsLargeFor q t → HasLarge eq rule q cells unit
+  pub large_found : (q : Count) (cells : List Cells) (t : Plain) → AreExact eq rule q cells →
+      IsCandidate eq rule t → degree_order (degree_of eq.types t) degree_zero ≢ Greater →
+      IsLargeFor q t → HasLarge eq rule q cells unit
   large_found q cells t exact c below large =
       let row = c.conforming.root.0 in
       let i = c.conforming.root.1 in
@@ -117,7 +122,9 @@ module _ (eq : Equation) (rule : Rule) (e : IsEquation eq) (f : IsRule eq rule) 
       )
 
   -- no tree without edges is found
-  edge_at : (q : Count) (t : Plain) (m l most : ℕ) → IsDrawn eq rule t → class_of q t ≡ m → Lacks q m l → l ≤ most → (((degree_of eq.types t).a +ℤ pos (unit * most)) ≤ℤ pos 0) → 0 < edge_count_of t
+  edge_at : (q : Count) (t : Plain) (m l most : ℕ) → IsDrawn eq rule t → class_of q t ≡ m →
+      Lacks q m l → l ≤ most → (((degree_of eq.types t).a +ℤ pos (unit * most)) ≤ℤ pos 0) →
+      0 < edge_count_of t
   edge_at q (graft k p c t) m l most d is lack lt at = omega arith
   edge_at Edges (bare n) m l most d is lack lt at = let none = lack.0 in absurd (omega (arith, is))
   edge_at Decorations (bare n) m l most d is lack lt at =
@@ -197,7 +204,9 @@ module _ (eq : Equation) (rule : Rule) (e : IsEquation eq) (f : IsRule eq rule) 
           tied = λ same. let tied = at.tied (omega (arith, ints)) in omega (arith, ints);
         }
 
-  large_by : (q : Count) (s t : Plain) (m l most : ℕ) → IsDrawn eq rule t → class_of q t ≡ m → Lacks q m l → l ≤ most → edge_count_of s ≡ edge_count_of t → decoration_sum_of s ≡ most + decoration_sum_of t → IsTooLarge s
+  large_by : (q : Count) (s t : Plain) (m l most : ℕ) → IsDrawn eq rule t → class_of q t ≡ m →
+      Lacks q m l → l ≤ most → edge_count_of s ≡ edge_count_of t →
+      decoration_sum_of s ≡ most + decoration_sum_of t → IsTooLarge s
   large_by Edges s t m l most d is lack lt count sums = let full = lack.0 in inl (omega (arith, is, count, weight_edges t))
   large_by Decorations s t m l most d is lack lt count sums = inr (omega (arith, is, lack, sums, weight_sum t, drawn_sum eq rule t d))
 
@@ -227,16 +236,20 @@ module _ (eq : Equation) (rule : Rule) (e : IsEquation eq) (f : IsRule eq rule) 
       }
 
 -- a node type for which no cell is found
-root_more : (regularity : ℤ) (unit : ℕ) (u v : Excess) (l : ℕ) → IsAtMost u v → IsAtMost (degree_at_root regularity unit u l) (degree_at_root regularity unit v l)
+root_more : (regularity : ℤ) (unit : ℕ) (u v : Excess) (l : ℕ) → IsAtMost u v →
+    IsAtMost (degree_at_root regularity unit u l) (degree_at_root regularity unit v l)
 root_more regularity unit u v l h =
     let standard = h.standard in
     record { standard = omega (arith, ints); tied = λ same. h.tied (omega (arith, ints)) }
 
-root_same : (r s : ℤ) (unit p o l : ℕ) (u : Excess) → r ≡ s → p ≡ o → IsAtMost (degree_at_root s unit u (max l o)) no_excess → IsAtMost (degree_at_root r unit u (max l p)) no_excess
+root_same : (r s : ℤ) (unit p o l : ℕ) (u : Excess) → r ≡ s → p ≡ o →
+    IsAtMost (degree_at_root s unit u (max l o)) no_excess →
+    IsAtMost (degree_at_root r unit u (max l p)) no_excess
 root_same r s unit p o l u e f h =
     subst (λ (z : ℤ). IsAtMost (degree_at_root z unit u (max l p)) no_excess) (sym e) (subst (λ (x : ℕ). IsAtMost (degree_at_root s unit u (max l x)) no_excess) (sym f) h)
 
-pub node_none : (eq : Equation) (q : Count) (cells : List Cells) (unit : ℕ) (n : NodeType) (line : Line) (regularity : ℤ) (lacking i : ℕ) → regularity ≡ node_regularity eq n → lacking ≡ planted_lack eq.types (labels n) →
+pub node_none : (eq : Equation) (q : Count) (cells : List Cells) (unit : ℕ) (n : NodeType) (line : Line) (regularity : ℤ) (lacking i : ℕ) →
+    regularity ≡ node_regularity eq n → lacking ≡ planted_lack eq.types (labels n) →
     pos 0 ≤ℤ (pos most_excess +ℤ node_regularity eq n) → IsLeast (IsPartial q cells (labels n)) line → length line ≤ i → ((k : ℕ) → k < i → (v : Excess) → HasCell line k v → IsLargeAt q regularity unit lacking k v → ⊥) →
     HasLargeNode eq q cells unit n → ⊥
 node_none eq q cells unit n line regularity lacking i reg lack low l all none h =

@@ -71,7 +71,8 @@ put_value : (old : Line) (c : ℕ) (w v : Excess) → c < length old → HasCell
 put_value old c w v lt h = some_is w v (sym (get_or-set_same old c (Some w) None lt) ∙ h)
 
 module _ (old : Line) (c : ℕ) (v w : Excess) (lt : c < length old) (l : IsLesser (get_or old c None) v w) (few : v.a ≤ℤ pos most_excess) where
-  put_attained : (m : ℕ) (u : Excess) → (m ≡ c) ⊎ (m ≢ c) → HasCell (slice_set old c (Some w)) m u → HasCell old m u ⊎ (((m ≡ c) × (u ≡ v)) × (u.a ≤ℤ pos most_excess))
+  put_attained : (m : ℕ) (u : Excess) → (m ≡ c) ⊎ (m ≢ c) → HasCell (slice_set old c (Some w)) m u →
+      HasCell old m u ⊎ (((m ≡ c) × (u ≡ v)) × (u.a ≤ℤ pos most_excess))
   put_attained m u (inl e) h =
       let here : w ≡ u = put_value old c w u lt (subst (λ (i : ℕ). HasCell (slice_set old c (Some w)) i u) e h) in
       elim (lesser_one (get_or old c None) v w l) [
@@ -101,7 +102,10 @@ joins_nothing old P none = record {
   least = λ m v p few. absurd (none m v p few);
 }
 
-pub joins_same : (old : Line) (P Q : ℕ → Excess → Type 0) (new : Line) → ((m : ℕ) (v : Excess) → P m v → v.a ≤ℤ pos most_excess → Q m v) → ((m : ℕ) (v : Excess) → Q m v → v.a ≤ℤ pos most_excess → (u : Excess) × P m u × IsAtMost u v) → Joins old P new → Joins old Q new
+pub joins_same : (old : Line) (P Q : ℕ → Excess → Type 0) (new : Line) →
+    ((m : ℕ) (v : Excess) → P m v → v.a ≤ℤ pos most_excess → Q m v) →
+    ((m : ℕ) (v : Excess) → Q m v → v.a ≤ℤ pos most_excess → (u : Excess) × P m u × IsAtMost u v) →
+    Joins old P new → Joins old Q new
 joins_same old P Q new to from j = record {
   attained = λ m v h. elim (j.attained m v h) [ inl o ↦ inl o | inr p ↦ inr (to m v p.0 p.1, p.1) ];
   kept = j.kept;
@@ -113,7 +117,9 @@ joins_same old P Q new to from j = record {
 }
 
 -- one more of a row of families
-pub joins_more : (old : Line) (F : ℕ → ℕ → Excess → Type 0) (i : ℕ) (now new : Line) → Joins old (λ m v. (j : ℕ) × (j < i) × F j m v) now → Joins now (F i) new → Joins old (λ m v. (j : ℕ) × (j < i + 1) × F j m v) new
+pub joins_more : (old : Line) (F : ℕ → ℕ → Excess → Type 0) (i : ℕ) (now new : Line) →
+    Joins old (λ m v. (j : ℕ) × (j < i) × F j m v) now → Joins now (F i) new →
+    Joins old (λ m v. (j : ℕ) × (j < i + 1) × F j m v) new
 joins_more old F i now new h k = record {
   attained = λ m v c. elim (k.attained m v c) [
     | inl o ↦ elim (h.attained m v o) [ inl older ↦ inl older | inr p ↦ inr ((p.0.0, omega (arith, p.0.1), p.0.2), p.1) ]
@@ -146,7 +152,10 @@ joins_none_least old P new none j = record {
 }
 
 -- the least of a family is that of each with the same least values
-pub least_same : (P Q : ℕ → Excess → Type 0) (line : Line) → ((m : ℕ) (v : Excess) → P m v → v.a ≤ℤ pos most_excess → Q m v) → ((m : ℕ) (v : Excess) → Q m v → v.a ≤ℤ pos most_excess → (u : Excess) × P m u × IsAtMost u v) → IsLeast P line → IsLeast Q line
+pub least_same : (P Q : ℕ → Excess → Type 0) (line : Line) →
+    ((m : ℕ) (v : Excess) → P m v → v.a ≤ℤ pos most_excess → Q m v) →
+    ((m : ℕ) (v : Excess) → Q m v → v.a ≤ℤ pos most_excess → (u : Excess) × P m u × IsAtMost u v) →
+    IsLeast P line → IsLeast Q line
 least_same P Q line to from j = record {
   attained = λ m v h. let p = j.attained m v h in (to m v p.0 p.1, p.1);
   least = λ m v q few.
@@ -162,7 +171,9 @@ cell_below [] m v h = absurd cc
 cell_below (x ∷ xs) zero v h = omega arith
 cell_below (x ∷ xs) (suc m) v h = omega (arith, cell_below xs m v h)
 
-pub sums_least : (most weight : ℕ) (xs ys old new : Line) (n : ℕ) → length xs ≤ n → IsNone old → Joins old (λ m v. (i : ℕ) × (i < n) × ((x : Excess) × HasCell xs i x × IsShifted most (weight + i) x ys m v)) new → IsLeast (IsSum most weight xs ys) new
+pub sums_least : (most weight : ℕ) (xs ys old new : Line) (n : ℕ) → length xs ≤ n → IsNone old →
+    Joins old (λ m v. (i : ℕ) × (i < n) × ((x : Excess) × HasCell xs i x × IsShifted most (weight + i) x ys m v)) new →
+    IsLeast (IsSum most weight xs ys) new
 sums_least most weight xs ys old new n all none j =
     least_same (λ m v. (i : ℕ) × (i < n) × ((x : Excess) × HasCell xs i x × IsShifted most (weight + i) x ys m v)) (IsSum most weight xs ys) new
     (λ m v p few. (p.0, p.2.0, p.2.1, p.2.2))

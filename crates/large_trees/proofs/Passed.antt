@@ -23,7 +23,9 @@ same_place m c =
     elim (m == c) as (λ (b : Bool). (m == c) ≡ b → (m ≡ c) ⊎ (m ≢ c)) [ true ↦ λ e. inl (grind (arith, nat_tests)) | false ↦ λ e. inr (grind (arith, nat_tests)) ] refl
 
 -- what holds of the members that a loop has passed
-pub passed_more : {X : Type 0} (P : X → Type 0) (xs : List X) (i : ℕ) (x : X) → i < length xs → x ≡ get_or xs i x → P x → ((j : ℕ) (y : X) → j < i → IsAt xs j y → P y) → (j : ℕ) (y : X) → j < i + 1 → IsAt xs j y → P y
+pub passed_more : {X : Type 0} (P : X → Type 0) (xs : List X) (i : ℕ) (x : X) → i < length xs →
+    x ≡ get_or xs i x → P x → ((j : ℕ) (y : X) → j < i → IsAt xs j y → P y) → (j : ℕ) (y : X) →
+    j < i + 1 → IsAt xs j y → P y
 passed_more P xs i x lt is p h j y before at =
     elim (same_place j i) [
       | inl e ↦ let place = subst (λ (k : ℕ). IsAt xs k y) e at in subst P (at_one xs i x y (lt, is) place) p

@@ -29,7 +29,8 @@ module _ {X : Type 0} (G : X → ℕ → Excess → Type 0) (xs : List X) (old :
   pub none_yet : Joins old (UpTo 0) old
   none_yet = joins_nothing old (UpTo 0) (λ m v p few. let lt = p.1 in absurd (omega arith))
 
-  pub one_more : (i : ℕ) (x : X) (now new : Line) → i < length xs → x ≡ get_or xs i x → Joins old (UpTo i) now → Joins now (G x) new → Joins old (UpTo (i + 1)) new
+  pub one_more : (i : ℕ) (x : X) (now new : Line) → i < length xs → x ≡ get_or xs i x →
+      Joins old (UpTo i) now → Joins now (G x) new → Joins old (UpTo (i + 1)) new
   one_more i x now new lt is h k =
       joins_more old (λ j m v. (y : X) × IsAt xs j y × G y m v) i now new h
       (joins_same now (G x) (λ m v. (y : X) × IsAt xs i y × G y m v) new (λ m v p few. (x, (lt, is), p))
@@ -42,7 +43,10 @@ module _ {X : Type 0} (G : X → ℕ → Excess → Type 0) (xs : List X) (old :
 
 -- a node type
 module _ (eq : Equation) (q : Count) (cells : List Cells) (limited : AreLimited cells) (k : ℕ) (n : NodeType) (old : Line) where
-  pub node_joins : (above new : Line) → pos 1 ≤ℤ (gap_of eq k n).a → IsLeast (IsPartial q cells (labels n)) above → Joins old (IsShifted (most_of q) 0 (gap_of eq k n) above) new → Joins old (HasNode eq q cells k n) new
+  pub node_joins : (above new : Line) → pos 1 ≤ℤ (gap_of eq k n).a →
+      IsLeast (IsPartial q cells (labels n)) above →
+      Joins old (IsShifted (most_of q) 0 (gap_of eq k n) above) new →
+      Joins old (HasNode eq q cells k n) new
   node_joins above new gap l h =
       joins_same old (IsShifted (most_of q) 0 (gap_of eq k n) above) (HasNode eq q cells k n) new
       (λ m v p few.
@@ -75,7 +79,10 @@ noise_least eq k x old new none noise is h =
     joins_none_least old (HasNoise eq k) new none
     (joins_same old (λ m v. (m ≡ 0) × (v ≡ x)) (HasNoise eq k) new (λ m v p few. (noise, p.0, p.1 ∙ is)) (λ m v p few. (v, (p.1, p.2 ∙ sym is), at_most_self v)) h)
 
-pub line_least : (eq : Equation) (rule : Rule) (q : Count) (cells : List Cells) (k i : ℕ) (noise new : Line) → length rule.rows ≤ i → IsLeast (HasNoise eq k) noise → Joins noise (UpTo (HasRow eq q cells k) rule.rows noise i) new → IsLeast (HasExcess eq rule q cells k) new
+pub line_least : (eq : Equation) (rule : Rule) (q : Count) (cells : List Cells) (k i : ℕ) (noise new : Line) →
+    length rule.rows ≤ i → IsLeast (HasNoise eq k) noise →
+    Joins noise (UpTo (HasRow eq q cells k) rule.rows noise i) new →
+    IsLeast (HasExcess eq rule q cells k) new
 line_least eq rule q cells k i noise new all l h =
     let j = all_of (HasRow eq q cells k) rule.rows noise i new all h in
     record {
@@ -99,7 +106,9 @@ line_before [] more k lt = absurd (omega arith)
 line_before (l ∷ ls) more zero lt = refl
 line_before (l ∷ ls) more (suc k) lt = line_before ls more k (omega arith)
 
-pub lines_more : (P : ℕ → ℕ → Excess → Type 0) (lines : List Cells) (line : Cells) (i : ℕ) → length lines ≡ i → ((k : ℕ) → k < i → IsLeast (P k) (line_at lines k)) → IsLeast (P i) line.cells → (k : ℕ) → k < i + 1 → IsLeast (P k) (line_at (lines ++ line ∷ []) k)
+pub lines_more : (P : ℕ → ℕ → Excess → Type 0) (lines : List Cells) (line : Cells) (i : ℕ) →
+    length lines ≡ i → ((k : ℕ) → k < i → IsLeast (P k) (line_at lines k)) →
+    IsLeast (P i) line.cells → (k : ℕ) → k < i + 1 → IsLeast (P k) (line_at (lines ++ line ∷ []) k)
 lines_more P lines line i long h l k lt =
     elim (same_place k i) [
       | inl e ↦

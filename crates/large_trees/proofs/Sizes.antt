@@ -1,4 +1,5 @@
--- How great the excesses in cells are: the coefficient of k is bounded by the standard part, since each kernel edge adds at least 1 to that.
+-- How great the excesses in cells are: the coefficient of k is bounded by the standard part, since
+-- each kernel edge adds at least 1 to that.
 use Rattle.std.proofs.Common.{inl, inr, unsigned_abs, map, drop, get_or, ◌-◌, length-drop, ◌≡◌, ℕ, zero, suc, ◌+◌, ◌*◌, ◌<◌, ◌≤◌, pos, ◌≤ℤ◌, List, [], ◌∷◌, length, refl, sym, ap, subst, arith}
 use Rattle.std.proofs.lemmas.Int.{ints}
 use Rattle.std.proofs.lemmas.List.{length-map}
@@ -61,7 +62,10 @@ module _ (q : Count) (cells : List Cells) (limited : AreLimited cells) where
   partial_class (e ∷ es) m v p = let z = p.3.3 in omega arith
 
   -- one edge more
-  pub partial_step : (e : EdgeLabel) (es : List EdgeLabel) (line next : Line) → IsLeast (IsPartial q cells es) line → IsLeast (IsSum (most_of q) (weight_at q e.1) line (line_at cells e.0)) next → IsLeast (IsPartial q cells (e ∷ es)) next
+  pub partial_step : (e : EdgeLabel) (es : List EdgeLabel) (line next : Line) →
+      IsLeast (IsPartial q cells es) line →
+      IsLeast (IsSum (most_of q) (weight_at q e.1) line (line_at cells e.0)) next →
+      IsLeast (IsPartial q cells (e ∷ es)) next
   partial_step e es line next l h =
       least_same (IsSum (most_of q) (weight_at q e.1) line (line_at cells e.0)) (IsPartial q cells (e ∷ es)) next
       (λ m v p few. (p.0, p.1, (l.attained p.0 p.1 p.2).0, p.3))
@@ -76,17 +80,22 @@ module _ (q : Count) (cells : List Cells) (limited : AreLimited cells) where
       h
 
 module _ (q : Count) (cells : List Cells) (limited : AreLimited cells) where
-  pub node_start : (xs : List EdgeType) (line : Line) → IsLeast (λ m v. (m ≡ 0) × (v ≡ no_excess)) line → IsLeast (IsPartial q cells (map label (drop (length xs) xs))) line
+  pub node_start : (xs : List EdgeType) (line : Line) →
+      IsLeast (λ m v. (m ≡ 0) × (v ≡ no_excess)) line →
+      IsLeast (IsPartial q cells (map label (drop (length xs) xs))) line
   node_start xs line l = let none : drop (length xs) xs ≡ [] = grind (arith, common_steps) in rw none l
 
-  pub node_step : (xs : List EdgeType) (left : ℕ) (d : EdgeType) (line next : Line) → 0 < left → left ≤ length xs → IsLeast (IsPartial q cells (map label (drop left xs))) line →
+  pub node_step : (xs : List EdgeType) (left : ℕ) (d : EdgeType) (line next : Line) → 0 < left →
+      left ≤ length xs → IsLeast (IsPartial q cells (map label (drop left xs))) line →
       IsLeast (IsSum (most_of q) (weight_at q (get_or xs (left - 1) d).p.entries) line (line_at cells (get_or xs (left - 1) d).kind.0)) next → IsLeast (IsPartial q cells (map label (drop (left - 1) xs))) next
   node_step xs left d line next some lt l h =
       let e = get_or xs (left - 1) d in
       let more : drop (left - 1) xs ≡ e ∷ drop left xs = grind (arith, common_steps) in
       rw more (partial_step q cells limited (label e) (map label (drop left xs)) line next l h)
 
-  pub rest_small : (xs : List EdgeType) (left : ℕ) (line : Line) → length xs < 18446744073709551616 → IsLeast (IsPartial q cells (map label (drop left xs))) line → AreSmall line
+  pub rest_small : (xs : List EdgeType) (left : ℕ) (line : Line) →
+      length xs < 18446744073709551616 →
+      IsLeast (IsPartial q cells (map label (drop left xs))) line → AreSmall line
   rest_small xs left line few l =
       let shorter : length (map label (drop left xs)) ≤ length xs = omega (arith, length-map (drop left xs) label, length-drop left xs) in
       line_small q cells limited (map label (drop left xs)) line (omega (arith, shorter)) l
@@ -100,7 +109,8 @@ module _ (eq : Equation) (rule : Rule) (q : Count) (cells : List Cells) (types :
       let high = bound.high in
       subst (IsLimited greatest) (sym p.2) record { size = 0; a = refl; b = record { low = omega (arith, ints); high = omega (arith, ints) } }
 
-  node_limited : (k m : ℕ) (v : Excess) (n : NodeType) → length n.edges < 18446744073709551616 → pos 1 ≤ℤ (gap_of eq k n).a → HasNode eq q cells k n m v → IsLimited greatest v
+  node_limited : (k m : ℕ) (v : Excess) (n : NodeType) → length n.edges < 18446744073709551616 →
+      pos 1 ≤ℤ (gap_of eq k n).a → HasNode eq q cells k n m v → IsLimited greatest v
   node_limited k m v n few gap p =
       let bound = type_b_within eq.types k types in
       let low = bound.low in

@@ -54,7 +54,8 @@ sum_from eq a (e ∷ es) = let rest = sum_from eq (a +ℤ edge_regularity eq e) 
 pub regularity_labels : (eq : Equation) (n : NodeType) → node_regularity eq n ≡ labels_regularity eq (labels n)
 regularity_labels eq n = sum_from eq (pos 0) n.edges ∙ omega (arith, ints)
 
-pub node_excess : (eq : Equation) (k : ℕ) (n : NodeType) (c : Plain) → labels n ≡ root_labels c → planted_excess eq k c ≡ excess_plus (gap_of eq k n) (tree_excess eq c)
+pub node_excess : (eq : Equation) (k : ℕ) (n : NodeType) (c : Plain) → labels n ≡ root_labels c →
+    planted_excess eq k c ≡ excess_plus (gap_of eq k n) (tree_excess eq c)
 node_excess eq k n c h =
     let reg : node_regularity eq n ≡ labels_regularity eq (root_labels c) = regularity_labels eq n ∙ ap (labels_regularity eq) h in
     excess_is (planted_excess eq k c) (excess_plus (gap_of eq k n) (tree_excess eq c)) (omega (arith, ints)) (omega (arith, ints))
@@ -63,7 +64,9 @@ node_excess eq k n c h =
 lt_is : (x y : ℤ) → int_lt x y ≡ true → pos 1 ≤ℤ (y -ℤ x)
 lt_is x y h = grind (arith, ints)
 
-pub gap_above : (eq : Equation) (rule : Rule) (row : RuleRow) (n : NodeType) → IsSubcritical eq rule → IsIn row rule.rows → IsIn n row.nodes → pos 1 ≤ℤ (gap_of eq row.kernel.0 n).a
+pub gap_above : (eq : Equation) (rule : Rule) (row : RuleRow) (n : NodeType) →
+    IsSubcritical eq rule → IsIn row rule.rows → IsIn n row.nodes →
+    pos 1 ≤ℤ (gap_of eq row.kernel.0 n).a
 gap_above eq rule row n h r m = lt_is (regularity_of eq row.kernel.0) ((type_degree eq.types row.kernel.0).a +ℤ node_regularity eq n) (h row n r m)
 
 -- classes
@@ -77,7 +80,8 @@ HasHeight eq t = (pos 0 ≤ℤ (tree_excess eq t).a) × (pos (height t) ≤ℤ (
 abbrev pub HasHeightAbove : Equation → ℕ → Plain → Type 0
 HasHeightAbove eq k c = (pos 0 ≤ℤ (planted_excess eq k c).a) × (pos (height c) ≤ℤ (planted_excess eq k c).a)
 
-noise_at : (o : Option TypeEntry) (r : ℤ) → option_map (λ e. e.kind) o ≡ Some Noise → regularity_at o r ≡ (unwrap_or (option_map (λ e. e.degree) o) degree_zero).a
+noise_at : (o : Option TypeEntry) (r : ℤ) → option_map (λ e. e.kind) o ≡ Some Noise →
+    regularity_at o r ≡ (unwrap_or (option_map (λ e. e.degree) o) degree_zero).a
 noise_at None r h = absurd cc
 noise_at (Some e) r h = noise_kind e.kind e.degree.a r (some_kind e.kind Noise h)
   where
@@ -98,7 +102,9 @@ module _ (eq : Equation) (rule : Rule) (sub : IsSubcritical eq rule) where
       let reg = noise_regularity eq k h in
       rw e (excess_is (planted_excess eq k empty_tree) record { a = pos 0; b = (type_degree eq.types k).b } (omega (arith, ints)) (omega (arith, ints)))
 
-  row_height : (k : ℕ) (c : Plain) (row : RuleRow) (n : NodeType) → IsIn row rule.rows → row.kernel.0 ≡ k → IsIn n row.nodes → labels n ≡ root_labels c → HasHeight eq c → HasHeightAbove eq k c
+  row_height : (k : ℕ) (c : Plain) (row : RuleRow) (n : NodeType) → IsIn row rule.rows →
+      row.kernel.0 ≡ k → IsIn n row.nodes → labels n ≡ root_labels c → HasHeight eq c →
+      HasHeightAbove eq k c
   row_height k c row n r same m l h =
       let gap : pos 1 ≤ℤ (gap_of eq k n).a = subst (λ (j : ℕ). pos 1 ≤ℤ (gap_of eq j n).a) same (gap_above eq rule row n sub r m) in
       let sum = ap (λ (x : Excess). x.a) (node_excess eq k n c l) in
@@ -106,7 +112,9 @@ module _ (eq : Equation) (rule : Rule) (sub : IsSubcritical eq rule) where
       let high = h.1 in
       (omega (arith, ints), omega (arith, ints))
 
-  pub above_height : (k : ℕ) (c : Plain) → k < length eq.types.list → (kind_of eq.types k ≡ Some Noise → c ≡ empty_tree) → IsInRule eq.types rule k (root_labels c) → HasHeight eq c → HasHeightAbove eq k c
+  pub above_height : (k : ℕ) (c : Plain) → k < length eq.types.list →
+      (kind_of eq.types k ≡ Some Noise → c ≡ empty_tree) →
+      IsInRule eq.types rule k (root_labels c) → HasHeight eq c → HasHeightAbove eq k c
   above_height k c lt e r h =
       elim r [
         | inl noise ↦

@@ -16,7 +16,8 @@ use Rattle.large_trees.specs.declared.charges.Charge.{Charge}
 use Rattle.large_trees.specs.Charges.{fine, bound_at, charged_edge, charged_sum, IsModest, AreBounds}
 use Rattle.large_trees.proofs.Passed.{same_place}
 
-fine_at : (es : List TypeEntry) (k : ℕ) → bound_at (map (λ e. fine e.degree.a) es) k ≡ fine (unwrap_or (option_map (λ e. e.degree) (slice_get es k)) degree_zero).a
+fine_at : (es : List TypeEntry) (k : ℕ) →
+    bound_at (map (λ e. fine e.degree.a) es) k ≡ fine (unwrap_or (option_map (λ e. e.degree) (slice_get es k)) degree_zero).a
 fine_at [] k = refl
 fine_at (e ∷ es) zero = refl
 fine_at (e ∷ es) (suc k) = fine_at es k
@@ -41,7 +42,8 @@ within_fits z n h most = let low = h.low in let high = h.high in omega (arith, i
 pub read_back : (z : ℤ) (n : ℕ) → IsWithin z n → n ≤ 1000000000000000000 → to_z w64 (of_z w64 z) ≡ z
 read_back z n h most = to_z-of_z w64 z (within_fits z n h most)
 
-pub sum_read : (x y : ℤ) (m n : ℕ) → IsWithin x m → IsWithin y n → m + n ≤ 1000000000000000000 → to_z w64 (of_z w64 (to_z w64 (of_z w64 x) +ℤ to_z w64 (of_z w64 y))) ≡ x +ℤ y
+pub sum_read : (x y : ℤ) (m n : ℕ) → IsWithin x m → IsWithin y n → m + n ≤ 1000000000000000000 →
+    to_z w64 (of_z w64 (to_z w64 (of_z w64 x) +ℤ to_z w64 (of_z w64 y))) ≡ x +ℤ y
 sum_read x y m n h k most =
     let h0 = h.low in
     let h1 = h.high in
@@ -59,7 +61,9 @@ degree_read ty k z h is =
 behind : (e : EdgeType) (es : List EdgeType) → take (length (e ∷ es) - 1) (drop 1 (e ∷ es)) ≡ es
 behind e es = let here : length (e ∷ es) - 1 ≡ length es = omega arith in rw here (take_all (length es) es (omega arith))
 
-pub first_sum : (ty : Types) (c : Charge) (bounds : List ℤ) (es : List EdgeType) (d : EdgeType) (x y : ℤ) → 1 ≤ length es → length es ≤ 1000 → x ≡ charged_edge ty c bounds (label (get_or es 0 d)) → IsWithin x 100000000000000 →
+pub first_sum : (ty : Types) (c : Charge) (bounds : List ℤ) (es : List EdgeType) (d : EdgeType) (x y : ℤ) →
+    1 ≤ length es → length es ≤ 1000 → x ≡ charged_edge ty c bounds (label (get_or es 0 d)) →
+    IsWithin x 100000000000000 →
     y ≡ charged_sum ty c bounds (map label (take (length es - 1) (drop 1 es))) → IsWithin y (100000000000000 * length (take (length es - 1) (drop 1 es))) →
     to_z w64 (of_z w64 (to_z w64 (of_z w64 x) +ℤ to_z w64 (of_z w64 y))) ≡ charged_sum ty c bounds (map label es)
 first_sum ty c bounds [] d x y some few first h rest k = absurd (omega (arith, some))
@@ -70,7 +74,8 @@ first_sum ty c bounds (e ∷ es) d x y some few first h rest k =
     sum ∙ ap (λ (z : ℤ). z +ℤ y) first ∙ ap (λ (z : ℤ). charged_edge ty c bounds (label e) +ℤ z) others
 
 -- the entry that a loop reads
-degree_at : (es : List TypeEntry) (k : ℕ) (x d : TypeEntry) → k < length es → x ≡ get_or es k d → unwrap_or (option_map (λ e. e.degree) (slice_get es k)) degree_zero ≡ x.degree
+degree_at : (es : List TypeEntry) (k : ℕ) (x d : TypeEntry) → k < length es → x ≡ get_or es k d →
+    unwrap_or (option_map (λ e. e.degree) (slice_get es k)) degree_zero ≡ x.degree
 degree_at [] k x d lt is = absurd (omega (arith, lt))
 degree_at (e ∷ es) zero x d lt is = ap (λ (y : TypeEntry). y.degree) (sym is)
 degree_at (e ∷ es) (suc k) x d lt is = degree_at es k x d (omega (arith, lt)) is
@@ -79,7 +84,8 @@ pub entry_within : (ty : Types) → AreTypes ty → (k : ℕ) (x d : TypeEntry) 
 entry_within ty h k x d lt is = subst (λ (e : Degree). IsWithin e.a 20000000) (degree_at ty.list k x d lt is) (type_a_within ty k h)
 
 -- one of them is lowered
-pub lower_bounds : (ty : Types) (bounds : List ℤ) (k : ℕ) (v : ℤ) → AreBounds ty bounds → k < length bounds → v ≤ℤ bound_at bounds k → IsModest v → AreBounds ty (slice_set bounds k v)
+pub lower_bounds : (ty : Types) (bounds : List ℤ) (k : ℕ) (v : ℤ) → AreBounds ty bounds →
+    k < length bounds → v ≤ℤ bound_at bounds k → IsModest v → AreBounds ty (slice_set bounds k v)
 lower_bounds ty bounds k v h lt less modest = record {
   modest = λ l. elim (same_place l k) [
     | inl e ↦ subst (λ (i : ℕ). IsModest (bound_at (slice_set bounds k v) i)) (sym e) (subst IsModest (sym (get_or-set_same bounds k v (pos 0) lt)) modest)

@@ -1,6 +1,8 @@
 -- What is counted of a tree, up to the class "more".
+-- Working notions of the code and of proofs, which no contract of a public call names:
 --   most_of q == the class "more": 25 edges, or 65 entries
---   weight_at q p == what an edge with the derivative decoration p counts: 1, or the sum of its entries
+--   weight_at q p == what an edge with the derivative decoration p counts: 1, or the sum of its
+--       entries
 --   weight_of q t == the sum over the edges of t
 --   class_of q t == this sum, or "more"
 use Rattle.std.specs.Prelude.{ℕ, ◌+◌, List, sum, min}

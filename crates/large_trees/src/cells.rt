@@ -45,7 +45,8 @@ fn are_same(cells: &[Line], next: &[Line]) -> bool
     cells == next
 }
 
-/// For each type, noises and kernels, the line of the least excesses of the trees that may stand above its edges. Fails only for want of memory.
+/// For each type, noises and kernels, the line of the least excesses of the trees that may stand
+/// above its edges. Fails only for want of memory.
 pub fn cells(
     alloc: Global,
     eq: &Equation,

@@ -21,7 +21,8 @@ pub struct Charge {
 /// A unit in which degrees are bounded finely enough: a thousandth of theirs.
 pub const FINE: u64 = 1_000;
 
-// Node types with more edges, or with a greater sum of the entries of a derivative, are not bounded.
+// Node types with more edges, or with a greater sum of the entries of a derivative, are not
+// bounded.
 const MOST_LENGTH: usize = 1_000;
 
 fn are_low(edges: &[EdgeType]) -> bool
@@ -144,7 +145,8 @@ pub fn brought(
     requires charge { charge.now.each ≤ 10000000000 }
     requires bounds { AreBounds types.now bounds.now }
     requires short { AreShort (labels node.now) }
-    ensures value { result ≡ fine (type_degree types.now kernel.0).a +ℤ charged_sum types.now charge.now bounds.now (labels node.now) }
+    ensures value { result ≡ fine (type_degree types.now kernel.0).a +ℤ charged_sum types.now
+        charge.now bounds.now (labels node.now) }
     ensures small { IsWithin result 200000000000000000 }
 {
     fine(standard_degree(types, kernel)) + node_sum(types, charge, bounds, node)

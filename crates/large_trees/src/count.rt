@@ -43,7 +43,8 @@ impl Count {
         }
     }
 
-    /// How many entries of a decoration at the root make a tree of this class too large, if any number does.
+    /// How many entries of a decoration at the root make a tree of this class too large, if any
+    /// number does.
     pub fn lack(self, class: usize) -> Option<usize>
         ensures some { IfSome result (λ l. Lacks self class l) }
         ensures none { IfNone result ((l : ℕ) → Lacks self class l → ⊥) }

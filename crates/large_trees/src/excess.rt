@@ -5,7 +5,8 @@ ghost use Rattle.large_trees.specs.Lines.{excess_plus, IsAtMost};
 
 use degree_numbers::Degree;
 
-/// By how much a degree lies above the regularity: its standard part, in units of one over the common denominator of the degrees, and its coefficient of `k`.
+/// By how much a degree lies above the regularity: its standard part, in units of one over the
+/// common denominator of the degrees, and its coefficient of `k`.
 #[derive(Clone, Copy, Debug, PartialEq, Eq)]
 pub struct Excess {
     pub a: i128,

@@ -83,7 +83,8 @@ fn regularity(eq: &Equation, kind: TypeId) -> Excess
     Excess::of(&regularity_of(eq, kind))
 }
 
-/// By how much the degree of a kernel and the regularity of a node type lie above the regularity of the kernel.
+/// By how much the degree of a kernel and the regularity of a node type lie above the regularity of
+/// the kernel.
 pub fn gap_of(eq: &Equation, kernel: TypeId, node: &NodeType) -> Excess
     requires { IsEquation eq.now }
     ensures value { result ≡ gap_of eq.now kernel.0 node.now }

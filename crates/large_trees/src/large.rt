@@ -26,7 +26,8 @@ use equations::Equation;
 use normal_rule::{NodeType, Rule, RuleRow};
 use std::alloc::{AllocError, Global};
 
-// Whether the trees of a cell, with a node type of this regularity at the root and as many entries of a decoration as they lack, have a degree of at most 0.
+// Whether the trees of a cell, with a node type of this regularity at the root and as many entries
+// of a decoration as they lack, have a degree of at most 0.
 fn is_large_cell(
     count: Count,
     class: usize,
@@ -40,8 +41,10 @@ fn is_large_cell(
     requires standard { regularity.now.b ≡ pos 0 }
     requires unit { unit ≤ 10000000 }
     requires planted { planted ≤ 1 }
-    ensures yes { result ≡ true → (v : Excess) × (cell ≡ Some v) × IsLargeAt count regularity.now.a unit planted class v }
-    ensures no { result ≡ false → (v : Excess) → cell ≡ Some v → IsLargeAt count regularity.now.a unit planted class v → ⊥ }
+    ensures yes { result ≡ true →
+        (v : Excess) × (cell ≡ Some v) × IsLargeAt count regularity.now.a unit planted class v }
+    ensures no { result ≡ false → (v : Excess) → cell ≡ Some v →
+        IsLargeAt count regularity.now.a unit planted class v → ⊥ }
 {
     match (cell, count.lack(class)) {
         (Some(excess), Some(lack)) => {
@@ -77,7 +80,8 @@ fn is_large_row(eq: &Equation, count: Count, cells: &[Line], unit: u64, row: &Ru
     requires equation { IsEquation eq.now }
     requires cells { AreLimited cells.now }
     requires unit { unit ≤ 10000000 }
-    requires low { (n : NodeType) → IsIn n row.now.nodes → pos 0 ≤ℤ (pos most_excess +ℤ node_regularity eq.now n) }
+    requires low { (n : NodeType) → IsIn n row.now.nodes →
+        pos 0 ≤ℤ (pos most_excess +ℤ node_regularity eq.now n) }
     ensures yes { result ≡ true → HasLargeRow eq.now count cells.now unit row.now }
     ensures no { result ≡ false → HasLargeRow eq.now count cells.now unit row.now → ⊥ }
 {
@@ -121,10 +125,13 @@ fn has_large(alloc: Global, eq: &Equation, rule: &Rule, count: Count) -> Result<
     Ok(is_large_rule(eq, rule, count, cells.as_slice(), unit(&eq.types)))
 }
 
-/// Whether some canonical tree over the types that strongly conforms to the rule, is unplanted, has an edge and a degree of at most 0 has more than 24 edges or a
-/// decoration sum of more than 64 (strong conformity after Bruned, Hairer and Zambotti). Such trees are not listed: for each type and each number of edges up
-/// to "more than 24", and then for each sum of derivative entries up to "more than 64", the least degree of the trees above its edges is found. There is no
-/// bound on the number or the length of the node types. Fails only for want of memory.
+/// Whether some canonical tree over the types that strongly conforms to the rule (after Bruned,
+/// Hairer and Zambotti), is unplanted, has an edge and a degree of at most 0 has more than 24 edges
+/// (`MOST_EDGES`) or a decoration sum of more than 64 (`MOST_LISTED_DECORATIONS`). Such trees are
+/// not listed: for each type and each number of edges up to "more than 24", and then for each sum
+/// of derivative entries up to "more than 64", the least degree of the trees above its edges is
+/// found. There is no bound on the number or the length of the node types. Fails only for want of
+/// memory.
 pub fn has_too_large_tree(alloc: Global, eq: &Equation, rule: &Rule) -> Result<bool, AllocError>
     requires equation { IsEquation eq.now }
     requires rule { IsRule eq.now rule.now }

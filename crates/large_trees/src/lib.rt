@@ -1,4 +1,5 @@
-//! Whether some tree of a degree of at most 0 is too large, without listing it.
+//! Whether some tree of a degree of at most 0 is too large, without listing it. It stands apart
+//! from the listing, since it makes no tree: it goes through tables of least degrees.
 #![tactic(auto)]
 
 mod bounded;

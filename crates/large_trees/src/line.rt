@@ -7,13 +7,15 @@ ghost use Rattle.large_trees.specs.Sums.{IsShifted, IsSum};
 
 use crate::excess::Excess;
 
-/// The greatest excess that a subtree of a tree of a degree of at most 0 has: a kernel's degree is at most 20, and its regularity at least -20.
+/// The greatest excess that a subtree of a tree of a degree of at most 0 has: a kernel's degree is
+/// at most 20, and its regularity at least -20.
 pub const MOST_EXCESS: i128 = 40_000_000;
 
 // The classes 0 to 65, the last of them "more" where entries are counted.
 pub const CLASSES: usize = 66;
 
-/// One cell for each class: the least excess of the trees of the class, if there are any of an excess of at most `MOST_EXCESS`.
+/// One cell for each class: the least excess of the trees of the class, if there are any of an
+/// excess of at most `MOST_EXCESS`.
 #[derive(Clone, Copy, Debug, PartialEq, Eq)]
 pub struct Line {
     pub cells: [Option<Excess>; 66],
@@ -61,14 +63,16 @@ impl Line {
         requires class { class < 66 }
         requires x { IsSmall x.now }
         requires cell { IsSmallCell cell }
-        ensures { Joins self.old.cells (λ m v. (y : Excess) × (cell ≡ Some y) × (m ≡ class) × (v ≡ excess_plus x.now y)) self.new.cells }
+        ensures { Joins self.old.cells (λ m v. (y : Excess) × (cell ≡ Some y) × (m ≡ class)
+            × (v ≡ excess_plus x.now y)) self.new.cells }
     {
         if let Some(y) = cell {
             self.put(class, x.plus(&y));
         }
     }
 
-    /// Puts the sums of a value and each cell of a line into the cells of their classes, which are greater by `class`.
+    /// Puts the sums of a value and each cell of a line into the cells of their classes, which are
+    /// greater by `class`.
     pub fn put_shifted(&mut self, most: usize, class: usize, x: &Excess, line: &Line)
         requires most { most < 66 }
         requires class { class ≤ 100000000000 }
@@ -81,20 +85,23 @@ impl Line {
         }
     }
 
-    // Puts the sums of a cell, if it has a value, and each cell of a line into the cells of their classes.
+    // Puts the sums of a cell, if it has a value, and each cell of a line into the cells of their
+    // classes.
     fn put_sums(&mut self, most: usize, class: usize, cell: Option<Excess>, line: &Line)
         requires most { most < 66 }
         requires class { class ≤ 100000000000 }
         requires cell { IsSmallCell cell }
         requires line { AreSmall line.now.cells }
-        ensures { Joins self.old.cells (λ m v. (x : Excess) × (cell ≡ Some x) × IsShifted most class x line.now.cells m v) self.new.cells }
+        ensures { Joins self.old.cells (λ m v. (x : Excess) × (cell ≡ Some x)
+            × IsShifted most class x line.now.cells m v) self.new.cells }
     {
         if let Some(x) = cell {
             self.put_shifted(most, class, &x, line);
         }
     }
 
-    /// The least sums of a cell of this line and a cell of another, with the weight of the edge between them.
+    /// The least sums of a cell of this line and a cell of another, with the weight of the edge
+    /// between them.
     pub fn sums(&self, most: usize, weight: usize, line: &Line) -> Line
         requires most { most < 66 }
         requires weight { weight ≤ 50000000000 }

@@ -53,7 +53,8 @@ fn lower_to(types: &Types, bounds: &mut [i64], kernel: TypeId, bound: i64) -> bo
     true
 }
 
-// Lowers the bound of the kernel of a row to the least that one of its node types brings. The answer is whether that is lower.
+// Lowers the bound of the kernel of a row to the least that one of its node types brings. The
+// answer is whether that is lower.
 fn lower_row(types: &Types, charge: &Charge, bounds: &mut [i64], row: &RuleRow) -> bool
     requires types { AreTypes types.now }
     requires charge { charge.now.each ≤ 10000000000 }
@@ -83,8 +84,9 @@ fn lower_each(types: &Types, charge: &Charge, bounds: &mut [i64], rule: &Rule) -
     lower
 }
 
-// For each type a bound of the degree of an edge of it with what stands above it and the charges on that, as far as it is found in as many rounds as there are
-// kernels. More are not needed: a tree in which a kernel stands twice on a path from the root is not the least, if there is one.
+// For each type a bound of the degree of an edge of it with what stands above it and the charges on
+// that, as far as it is found in as many rounds as there are kernels. More are not needed: a tree
+// in which a kernel stands twice on a path from the root is not the least, if there is one.
 fn bounds(
     alloc: Global,
     types: &Types,
@@ -134,7 +136,8 @@ fn least_sum(types: &Types, charge: &Charge, bounds: &[i64], rule: &Rule) -> i64
     least
 }
 
-// The least charge for which this least sum would be more than what the least too large tree is charged. With it the sum is less, or the same.
+// The least charge for which this least sum would be more than what the least too large tree is
+// charged. With it the sum is less, or the same.
 fn next_charge(charge: &Charge, least: i64) -> Charge
     ensures { result.count ≡ charge.now.count }
 {
@@ -145,9 +148,10 @@ fn next_charge(charge: &Charge, least: i64) -> Charge
     }
 }
 
-/// Whether lower bounds of degrees show that no candidate of a degree of at most 0 is too large for a count. To that end each that is counted is charged, at most
-/// the degree of an entry of a decoration, and some charges are tried: each is the least that the one before leaves possible. Where no charge shows it, there may
-/// be one or not. Fails only for want of memory.
+/// Whether lower bounds of degrees show that no candidate of a degree of at most 0 is too large for
+/// a count. To that end each that is counted is charged, at most the degree of an entry of a
+/// decoration, and some charges are tried: each is the least that the one before leaves possible.
+/// Where no charge shows it, there may be one or not. Fails only for want of memory.
 pub fn has_none(alloc: Global, eq: &Equation, rule: &Rule, count: Count) -> Result<bool, AllocError>
     requires { IsEquation eq.now }
     ensures { IfOk result (λ none. none ≡ true → HasNoLarge eq.now rule.now count) }

@@ -15,7 +15,8 @@ use normal_rule::{EdgeType, NodeType};
 fn with_edge(count: Count, cells: &[Line], edge: &EdgeType, line: &Line) -> Line
     requires cells { AreLimited cells.now }
     requires line { AreSmall line.now.cells }
-    ensures { IsLeast (IsSum (most_of count) (weight_at count edge.now.p.entries) line.now.cells (line_at cells.now edge.now.kind.0)) result.cells }
+    ensures { IsLeast (IsSum (most_of count) (weight_at count edge.now.p.entries) line.now.cells
+        (line_at cells.now edge.now.kind.0)) result.cells }
 {
     match cells.get(edge.kind.0 as usize) {
         Some(above) => line.sums(count.most(), count.weight(&edge.p), above),

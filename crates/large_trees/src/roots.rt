@@ -9,7 +9,8 @@ use crate::excess::Excess;
 use degree_numbers::{Kind, Types};
 use normal_rule::NodeType;
 
-/// The entries of a decoration that a root of a node type needs so that its tree is not planted: one where its only edge is that of a kernel.
+/// The entries of a decoration that a root of a node type needs so that its tree is not planted:
+/// one where its only edge is that of a kernel.
 pub fn planted_lack(types: &Types, node: &NodeType) -> usize
     ensures value { result ≡ planted_lack types.now (labels node.now) }
     ensures most { result ≤ 1 }
@@ -36,7 +37,8 @@ fn decorations(unit: u64, entries: usize) -> Excess
     }
 }
 
-/// The degree of a tree, of its excess, the regularity of its node type and the entries of a decoration at its root.
+/// The degree of a tree, of its excess, the regularity of its node type and the entries of a
+/// decoration at its root.
 pub fn root_degree(excess: &Excess, regularity: &Excess, unit: u64, entries: usize) -> Excess
     requires excess { IsSmall excess.now }
     requires regularity { IsWithin regularity.now.a 20000000000000000000000000000000000000 }

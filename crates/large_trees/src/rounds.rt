@@ -29,7 +29,8 @@ fn put_node(
     requires equation { IsEquation eq.now }
     requires cells { AreLimited cells.now }
     requires gap { pos 1 ≤ℤ (gap_of eq.now kernel.0 node.now).a }
-    ensures { Joins line.old.cells (HasNode eq.now count cells.now kernel.0 node.now) line.new.cells }
+    ensures { Joins line.old.cells (HasNode eq.now count cells.now kernel.0 node.now)
+        line.new.cells }
 {
     let gap = gap_of(eq, kernel, node);
     if gap.a <= MOST_EXCESS {
@@ -41,8 +42,10 @@ fn put_node(
 fn put_nodes(line: &mut Line, eq: &Equation, count: Count, cells: &[Line], row: &RuleRow)
     requires equation { IsEquation eq.now }
     requires cells { AreLimited cells.now }
-    requires gaps { (n : NodeType) → IsIn n row.now.nodes → pos 1 ≤ℤ (gap_of eq.now row.now.kernel.0 n).a }
-    ensures { Joins line.old.cells (λ m v. (n : NodeType) × IsIn n row.now.nodes × HasNode eq.now count cells.now row.now.kernel.0 n m v) line.new.cells }
+    requires gaps { (n : NodeType) → IsIn n row.now.nodes →
+        pos 1 ≤ℤ (gap_of eq.now row.now.kernel.0 n).a }
+    ensures { Joins line.old.cells (λ m v. (n : NodeType) × IsIn n row.now.nodes
+        × HasNode eq.now count cells.now row.now.kernel.0 n m v) line.new.cells }
 {
     for node in row.nodes.as_slice() {
         put_node(line, eq, count, cells, row.kernel, node);
@@ -53,7 +56,8 @@ fn put_nodes(line: &mut Line, eq: &Equation, count: Count, cells: &[Line], row: 
 fn put_row(line: &mut Line, eq: &Equation, count: Count, cells: &[Line], kind: usize, row: &RuleRow)
     requires equation { IsEquation eq.now }
     requires cells { AreLimited cells.now }
-    requires gaps { (n : NodeType) → IsIn n row.now.nodes → pos 1 ≤ℤ (gap_of eq.now row.now.kernel.0 n).a }
+    requires gaps { (n : NodeType) → IsIn n row.now.nodes →
+        pos 1 ≤ℤ (gap_of eq.now row.now.kernel.0 n).a }
     ensures { Joins line.old.cells (HasRow eq.now count cells.now kind row.now) line.new.cells }
 {
     if row.kernel.0 as usize == kind {

@@ -26,7 +26,8 @@ pub fn denominator(types: &Types) -> u64
     types.units.den.unsigned_abs()
 }
 
-/// The least degree of one entry of a decoration: the least entry of the scaling, in units of one over the common denominator.
+/// The least degree of one entry of a decoration: the least entry of the scaling, in units of one
+/// over the common denominator.
 pub fn unit(types: &Types) -> u64
     requires { AreTypes types.now }
     ensures unit { IsUnit types.now result }

@@ -1,17 +1,19 @@
-//! The limits of the workbench, each by its name: contracts, definitions and code cite them from here. A bound that follows from them is written as a product of
-//! them where it is used.
+//! The limits of the workbench, each by its name: contracts, definitions and code cite them from
+//! here. A bound that follows from them is written as a product of them where it is used.
 #![tactic(auto)]
 
 /// Most edges of a tree.
 pub const MOST_EDGES: u32 = 24;
 
-/// Most that the decorations of a tree sum up to, node and edge decorations together, entry by entry.
+/// Most that the decorations of a tree sum up to, node and edge decorations together, entry by
+/// entry.
 pub const MOST_DECORATIONS: u32 = 4096;
 
 /// The same for a tree that a user gives or a list shows.
 pub const MOST_LISTED_DECORATIONS: u32 = 64;
 
-/// Most that the node decorations of a bounded tree sum up to. Its edge decorations sum up to at most `MOST_LISTED_DECORATIONS`.
+/// Most that the node decorations of a bounded tree sum up to. Its edge decorations sum up to at
+/// most `MOST_LISTED_DECORATIONS`.
 pub const MOST_NODE_DECORATIONS: u32 = 1120;
 
 /// Most trees that a list has.
@@ -38,7 +40,8 @@ pub const LARGEST_SCALING: u64 = 10;
 /// Most parameters of a file, most noises and most unknowns.
 pub const MOST_NAMES: u64 = 8;
 
-/// The greatest number that a file or a degree text may write, and the greatest least common denominator.
+/// The greatest number that a file or a degree text may write, and the greatest least common
+/// denominator.
 pub const LARGEST_NUMBER: u64 = 1_000_000;
 
 /// The greatest size of the standard part and of the k part of a degree or regularity of a file.

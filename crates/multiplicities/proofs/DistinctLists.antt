@@ -21,7 +21,10 @@ distinct_map f (x ∷ xs) injective d =
     ((λ h. let m = from_map f (f x) xs h in d.0 (subst (λ z. IsIn z xs) (injective m.0 x m.2) m.1)), distinct_map f xs injective d.1)
 
 -- the lists that different members give have no member in common
-pub distinct_flat_map : {X Y : Type 0} (f : X → List Y) (key : Y → X) (xs : List X) → ((x : X) → IsIn x xs → AreDistinct (f x)) → ((x : X) (y : Y) → IsIn x xs → IsIn y (f x) → key y ≡ x) → AreDistinct xs → AreDistinct (flat_map f xs)
+pub distinct_flat_map : {X Y : Type 0} (f : X → List Y) (key : Y → X) (xs : List X) →
+    ((x : X) → IsIn x xs → AreDistinct (f x)) →
+    ((x : X) (y : Y) → IsIn x xs → IsIn y (f x) → key y ≡ x) → AreDistinct xs →
+    AreDistinct (flat_map f xs)
 distinct_flat_map f key [] each keyed d = tt
 distinct_flat_map f key (x ∷ xs) each keyed d =
     distinct_append (f x) (flat_map f xs) (each x (inl refl)) (distinct_flat_map f key xs (λ y h. each y (inr h)) (λ y z h k. keyed y z (inr h) k) d.1)

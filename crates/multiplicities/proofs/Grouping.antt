@@ -1,4 +1,5 @@
--- Sums and products over the distinct members of a list, with their multiplicities: what one more member changes.
+-- Sums and products over the distinct members of a list, with their multiplicities: what one more
+-- member changes.
 use Rattle.std.proofs.Common.{◌≡◌, ℕ, zero, suc, ◌+◌, ◌*◌, ◌^◌, ◌<◌, cond, List, [], ◌∷◌, length, refl, sym, ap, subst, ◌∙◌, arith, Ordering, Less, Equal, Greater}
 use Rattle.std.proofs.Math.Nat.{mul_comm, mul_assoc, pow-zero, pow-suc}
 use Rattle.std.specs.Ordering.{is_eq, ordering_reverse}
@@ -83,7 +84,8 @@ module _ {X : Type 0} (R : X → X → Ordering) (o : IsTotalOrder R) (exact : I
   exchange : (r a b : ℕ) → op a (op r b) ≡ op r (op a b)
   exchange r a b = sym (assoc a r b) ∙ ap (λ (n : ℕ). op n b) (comm a r) ∙ assoc r a b
 
-  over_once : (h g : X → ℕ) (r : ℕ) (z : X) (ds : List X) → count_of R z ds ≡ 1 → h z ≡ op r (g z) → ((y : X) → (R z y ≡ Equal → ⊥) → h y ≡ g y) → over op unit h ds ≡ op r (over op unit g ds)
+  over_once : (h g : X → ℕ) (r : ℕ) (z : X) (ds : List X) → count_of R z ds ≡ 1 → h z ≡ op r (g z) →
+      ((y : X) → (R z y ≡ Equal → ⊥) → h y ≡ g y) → over op unit h ds ≡ op r (over op unit g ds)
   over_once h g r z [] once at same = absurd (omega (arith, once))
   over_once h g r z (y ∷ ys) once at same =
       (elim (R z y) as (λ q. R z y ≡ q → over op unit h (y ∷ ys) ≡ op r (over op unit g (y ∷ ys))) [

@@ -1,5 +1,8 @@
--- The distinct members of a list. How often a member stands in a list is `count_of`, in ordered_lists.
---   distinct_by c xs == the members of xs that are different by the order c, each once: the last of equal ones
+-- The distinct members of a list. How often a member stands in a list is `count_of`, in
+-- ordered_lists.
+--   with_new n x xs == x in front of xs, where it stands there n = 0 times; else xs
+--   distinct_by c xs == the members of xs that are different by the order c, each once: the last of
+--       equal ones
 --   AreDistinct xs == no member of xs stands there twice
 use Rattle.std.specs.Prelude.{ℕ, zero, suc, List, [], ◌∷◌, ⊤}
 use Rattle.std.specs.declared.cmp.Ordering.{Ordering}

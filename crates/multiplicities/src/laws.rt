@@ -8,14 +8,19 @@ ghost use Rattle.ordered_lists.specs.Members.{IsIn};
 ghost use Rattle.ordered_lists.specs.Subs.{count_of};
 ghost use Rattle.multiplicities.specs.Distinct.{distinct_by, AreDistinct};
 
-/// The distinct members of a list are its members, each once; and of two lists without repetition with the same members neither is longer.
+/// The distinct members of a list are its members, each once; and of two lists without repetition
+/// with the same members neither is longer.
 pub fn distinct_laws<K>()
-    ensures members { (c : K → K → Ordering) (xs : List K) (x : K) → IsTotalOrder c → IsAntisymmetric c → IsIn x xs ↔ IsIn x (distinct_by c xs) }
-    ensures distinct { (c : K → K → Ordering) (xs : List K) → IsTotalOrder c → IsAntisymmetric c → AreDistinct (distinct_by c xs) }
-    ensures fewer { (xs ys : List K) → AreDistinct xs → ((x : K) → IsIn x xs → IsIn x ys) → length xs ≤ length ys }
+    ensures members { (c : K → K → Ordering) (xs : List K) (x : K) → IsTotalOrder c →
+        IsAntisymmetric c → IsIn x xs ↔ IsIn x (distinct_by c xs) }
+    ensures distinct { (c : K → K → Ordering) (xs : List K) → IsTotalOrder c → IsAntisymmetric c →
+        AreDistinct (distinct_by c xs) }
+    ensures fewer { (xs ys : List K) → AreDistinct xs → ((x : K) → IsIn x xs → IsIn x ys) →
+        length xs ≤ length ys }
 {}
 
 /// The multiplicities of the distinct members add up to the length of the list.
 pub fn grouping_laws<K>()
-    ensures { (c : K → K → Ordering) (xs : List K) → IsTotalOrder c → IsAntisymmetric c → total (λ x. count_of c x xs) (distinct_by c xs) ≡ length xs }
+    ensures { (c : K → K → Ordering) (xs : List K) → IsTotalOrder c → IsAntisymmetric c →
+        total (λ x. count_of c x xs) (distinct_by c xs) ≡ length xs }
 {}

@@ -60,7 +60,9 @@ module _ (ty : Types) (count : ℕ) where
             all_from_members (λ e. e.kind.0 < length ty.list) n.edges (λ e m. (all_at (IsFactor ty) t.0.factors (pair_of e) term.factors_known (factor_at n e t.0 t.3 m)).known)
       ]
 
-  node_directions : (u : Unknown) (row : RuleRow) (n : NodeType) → All (IsRightTerm ty count) u.right → IsRow u row → IsIn n row.nodes → All (λ e. IsMultiIndex ty.dims e.p.entries) n.edges
+  node_directions : (u : Unknown) (row : RuleRow) (n : NodeType) →
+      All (IsRightTerm ty count) u.right → IsRow u row → IsIn n row.nodes →
+      All (λ e. IsMultiIndex ty.dims e.p.entries) n.edges
   node_directions u row n terms h k =
       elim (h.allowed n k) [
         | inl e ↦ subst (λ (m : NodeType). All (λ e. IsMultiIndex ty.dims e.p.entries) m.edges) (sym e) (none (λ e. IsMultiIndex ty.dims e.p.entries))
@@ -70,7 +72,9 @@ module _ (ty : Types) (count : ℕ) where
       ]
 
   -- what holds of each row of an unknown holds of all
-  each_row : (P : RuleRow → Type 0) → ((u : Unknown) (row : RuleRow) → All (IsRightTerm ty count) u.right → IsRow u row → P row) → (us : List Unknown) (rows : List RuleRow) → All (IsUnknown ty count) us → AreRows us rows
+  each_row : (P : RuleRow → Type 0) →
+      ((u : Unknown) (row : RuleRow) → All (IsRightTerm ty count) u.right → IsRow u row → P row) →
+      (us : List Unknown) (rows : List RuleRow) → All (IsUnknown ty count) us → AreRows us rows
       → (row : RuleRow) → IsIn row rows → P row
   each_row P one [] [] h r row k = absurd k
   each_row P one [] (x ∷ rows) h r row k = absurd r

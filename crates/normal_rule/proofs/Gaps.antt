@@ -69,7 +69,8 @@ split_at (y ∷ ys) (suc i) x lt is = let s : suc i + 1 ≡ suc (i + 1) = omega 
 pub hold_none : (eq : Equation) (rows : List RuleRow) → HoldAll eq (take 0 rows)
 hold_none eq rows row n h k = absurd h
 
-pub hold_more : (eq : Equation) (rows : List RuleRow) (i : ℕ) (row : RuleRow) (nodes : List NodeType) → i < length rows → row ≡ get_or rows i row → nodes ≡ row.nodes
+pub hold_more : (eq : Equation) (rows : List RuleRow) (i : ℕ) (row : RuleRow) (nodes : List NodeType) →
+    i < length rows → row ≡ get_or rows i row → nodes ≡ row.nodes
     → HoldAll eq (take i rows) → prefix_len (holds eq row.kernel.0) nodes ≡ length nodes → HoldAll eq (take (i + 1) rows)
 hold_more eq rows i row nodes lt is same before here r n h k =
     let one_more : take (i + 1) rows ≡ take i rows ++ row ∷ [] = take_more rows i row lt ∙ ap (λ (x : RuleRow). take i rows ++ x ∷ []) (sym is) in
@@ -85,10 +86,12 @@ hold_more eq rows i row nodes lt is same before here r n h k =
 pub hold_all : (eq : Equation) (rows : List RuleRow) (i : ℕ) → length rows ≤ i → HoldAll eq (take i rows) → HoldAll eq rows
 hold_all eq rows i past h = subst (HoldAll eq) (take_all i rows past) h
 
-pub gap_all : (eq : Equation) (rows : List RuleRow) (i : ℕ) (gap : Degree) → length rows ≤ i → gap ≡ standard (rows_gap eq (take i rows)) → gap ≡ standard (rows_gap eq rows)
+pub gap_all : (eq : Equation) (rows : List RuleRow) (i : ℕ) (gap : Degree) → length rows ≤ i →
+    gap ≡ standard (rows_gap eq (take i rows)) → gap ≡ standard (rows_gap eq rows)
 gap_all eq rows i gap past e = e ∙ ap (λ (rs : List RuleRow). standard (rows_gap eq rs)) (take_all i rows past)
 
-pub first_failure : (eq : Equation) (rows : List RuleRow) (i : ℕ) (row : RuleRow) (nodes : List NodeType) (f : NotSubcritical) → i < length rows → row ≡ get_or rows i row → nodes ≡ row.nodes
+pub first_failure : (eq : Equation) (rows : List RuleRow) (i : ℕ) (row : RuleRow) (nodes : List NodeType) (f : NotSubcritical) →
+    i < length rows → row ≡ get_or rows i row → nodes ≡ row.nodes
     → HoldAll eq (take i rows) → f.kernel ≡ row.kernel → f.node ≡ prefix_len (holds eq row.kernel.0) nodes → f.node < length nodes → f.left ≡ standard (left_side eq row.kernel.0)
     → f.right ≡ standard (right_side eq row.kernel.0 (slice_index_or nodes f.node empty_node)) → IsFirstFailure eq rows f
 first_failure eq rows i row nodes f lt is same before kernel node inside left right = record {
@@ -104,10 +107,13 @@ first_failure eq rows i row nodes f lt is same before kernel node inside left ri
   right = subst (λ (ns : List NodeType). f.right ≡ standard (right_side eq row.kernel.0 (slice_index_or ns f.node empty_node))) same right;
 }
 
-pub measured_row : (rows : List RuleRow) (i : ℕ) (row : RuleRow) (nodes : List NodeType) → i < length rows → row ≡ get_or rows i row → nodes ≡ row.nodes → AreMeasured rows → All IsMeasuredNode nodes
+pub measured_row : (rows : List RuleRow) (i : ℕ) (row : RuleRow) (nodes : List NodeType) →
+    i < length rows → row ≡ get_or rows i row → nodes ≡ row.nodes → AreMeasured rows →
+    All IsMeasuredNode nodes
 measured_row rows i row nodes lt is same h = subst (All IsMeasuredNode) (sym same) (subst (λ (r : RuleRow). All IsMeasuredNode r.nodes) (sym is) (h i row lt))
 
-pub step_rows : (eq : Equation) (rows : List RuleRow) (i : ℕ) (row : RuleRow) (nodes : List NodeType) (gap of_row next : Degree) → i < length rows → row ≡ get_or rows i row → nodes ≡ row.nodes
+pub step_rows : (eq : Equation) (rows : List RuleRow) (i : ℕ) (row : RuleRow) (nodes : List NodeType) (gap of_row next : Degree) →
+    i < length rows → row ≡ get_or rows i row → nodes ≡ row.nodes
     → gap ≡ standard (rows_gap eq (take i rows)) → of_row ≡ standard (nodes_gap eq row.kernel.0 nodes) → next ≡ standard (int_min gap.a of_row.a)
     → next ≡ standard (rows_gap eq (take (i + 1) rows))
 step_rows eq rows i row nodes gap of_row next lt is same before own step =
@@ -121,13 +127,15 @@ small_difference eq k n h m = let left = regularity_within eq k h in let right =
 not_start : (g : ℤ) → g ≡ greatest → g ≤ℤ pos 10000000000000 → ⊥
 not_start g e low = let w : greatest ≤ℤ pos 10000000000000 = subst (λ (z : ℤ). z ≤ℤ pos 10000000000000) e low in absurd (omega (arith, ints))
 
-least_of_rows : (eq : Equation) (rows : List RuleRow) (r : RuleRow) (n : NodeType) → IsIn r rows → IsIn n r.nodes → rows_gap eq rows ≤ℤ difference eq r.kernel.0 n
+least_of_rows : (eq : Equation) (rows : List RuleRow) (r : RuleRow) (n : NodeType) → IsIn r rows →
+    IsIn n r.nodes → rows_gap eq rows ≤ℤ difference eq r.kernel.0 n
 least_of_rows eq rows r n h k =
     let row = below_each (λ (s : RuleRow). nodes_gap eq s.kernel.0 s.nodes) greatest rows r h in
     let node = below_each (difference eq r.kernel.0) greatest r.nodes n k in
     omega (arith, ints, row, node)
 
-is_gap : (eq : Equation) (rule : Rule) (r : RuleRow) → IsEquation eq → IsIn r rule.rows → IsIn empty_node r.nodes → AreMeasured rule.rows → IsGap eq rule (rows_gap eq rule.rows)
+is_gap : (eq : Equation) (rule : Rule) (r : RuleRow) → IsEquation eq → IsIn r rule.rows →
+    IsIn empty_node r.nodes → AreMeasured rule.rows → IsGap eq rule (rows_gap eq rule.rows)
 is_gap eq rule r h there empty small =
     let least = least_of_rows eq rule.rows in
     let low : rows_gap eq rule.rows ≤ℤ pos 10000000000000 =
@@ -160,7 +168,8 @@ rule_gap eq rule h rows small =
     let first = first_there rule.rows some in
     is_gap eq rule first.0 h first.1 (rows.empty first.0 first.1) small
 
-pub gap_from : (eq : Equation) (rule : Rule) (gap : Degree) (rows : List RuleRow) → IsEquation eq → HasRows eq rule → AreMeasured rule.rows → rows ≡ rule.rows → gap ≡ standard (rows_gap eq rows)
+pub gap_from : (eq : Equation) (rule : Rule) (gap : Degree) (rows : List RuleRow) → IsEquation eq →
+    HasRows eq rule → AreMeasured rule.rows → rows ≡ rule.rows → gap ≡ standard (rows_gap eq rows)
     → IsGap eq rule gap.a × (gap.b ≡ pos 0)
 gap_from eq rule gap rows h has small same e =
     let found : gap ≡ standard (rows_gap eq rule.rows) = e ∙ ap (λ (rs : List RuleRow). standard (rows_gap eq rs)) same in

@@ -1,4 +1,5 @@
--- The orders of edge types and of node types are total and tie only what is equal; that of node types is the order of their lists of pairs.
+-- The orders of edge types and of node types are total and tie only what is equal; that of node
+-- types is the order of their lists of pairs.
 use Rattle.std.proofs.Common.{◌≡◌, List, [], ◌∷◌, length, map, refl, ap}
 use Rattle.std.specs.declared.cmp.Ordering.{Ordering}
 use Rattle.std.specs.declared.cmp.Ordering.TheVariants.{Less, Equal, Greater}

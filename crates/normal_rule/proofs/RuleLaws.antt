@@ -39,7 +39,8 @@ in_grow_new : (ns : List NodeType) (f : Pair) (n : NodeType) → IsIn n ns → I
 in_grow_new ns f n h = insert_all_new node_order node_order_exact ns (map (with_factor f) ns) (with_factor f n) (in_map (with_factor f) n ns h)
 
 -- each member, with some of the factors still to come
-in_grown : (ns : List NodeType) (fs : List Pair) (m : NodeType) (r : List EdgeType) → IsIn m ns → IsSubMultiset (map pair_of r) fs → IsIn (node (m.edges ++ r)) (fold grow ns fs)
+in_grown : (ns : List NodeType) (fs : List Pair) (m : NodeType) (r : List EdgeType) → IsIn m ns →
+    IsSubMultiset (map pair_of r) fs → IsIn (node (m.edges ++ r)) (fold grow ns fs)
 in_grown ns [] m [] h k = subst (λ (es : List EdgeType). IsIn (node es) ns) (sym (append-nil m.edges)) h
 in_grown ns [] m (e ∷ es) h k = absurd k
 in_grown ns (f ∷ fs) m [] h k = in_grown (grow ns f) fs m [] (in_grow_old ns f m h) tt
@@ -50,7 +51,8 @@ in_grown ns (f ∷ fs) m (e ∷ es) h k =
       | inr left ↦ in_grown (grow ns f) fs m (e ∷ es) (in_grow_old ns f m h) left
     ]
 
-from_grown : (ns : List NodeType) (fs : List Pair) (n : NodeType) → IsIn n (fold grow ns fs) → (m : NodeType) × (r : List EdgeType) × IsIn m ns × IsSubMultiset (map pair_of r) fs × (node (m.edges ++ r) ≡ n)
+from_grown : (ns : List NodeType) (fs : List Pair) (n : NodeType) → IsIn n (fold grow ns fs) →
+    (m : NodeType) × (r : List EdgeType) × IsIn m ns × IsSubMultiset (map pair_of r) fs × (node (m.edges ++ r) ≡ n)
 from_grown ns [] n h = (n, [], h, tt, ap node (append-nil n.edges))
 from_grown ns (f ∷ fs) n h =
     let r = from_grown (grow ns f) fs n h in
@@ -93,7 +95,9 @@ length-subs-take fs i =
     rw whole (length-grown (subs_of (take i fs)) (drop i fs))
 
 -- what stands among the node types of terms
-from_terms : (ns : List NodeType) (ts : List RightTerm) (n : NodeType) → IsIn n (fold put_term ns ts) → IsIn n ns ⊎ ((t : RightTerm) × IsIn t ts × IsSubMultiset (pairs n) t.factors)
+from_terms : (ns : List NodeType) (ts : List RightTerm) (n : NodeType) →
+    IsIn n (fold put_term ns ts) →
+    IsIn n ns ⊎ ((t : RightTerm) × IsIn t ts × IsSubMultiset (pairs n) t.factors)
 from_terms ns [] n h = inl h
 from_terms ns (t ∷ ts) n h =
     elim (from_terms (put_term ns t) ts n h) [
@@ -190,27 +194,32 @@ rule_unique eq r s h k = let same = rows_unique eq.unknowns r.rows s.rows h k in
 pub large_subs : (fs : List Pair) (i : ℕ) (keys : List NodeType) (n : ℕ) → keys ≡ subs_of (take i fs) → n ≡ length keys → 2000 < n → 2000 < length (subs_of fs)
 large_subs fs i keys n is counted more = let same : length keys ≡ length (subs_of (take i fs)) = ap length is in omega (arith, same, counted, more, length-subs-take fs i)
 
-pub large_nodes : (ts : List RightTerm) (i : ℕ) (keys : List NodeType) (n : ℕ) → keys ≡ nodes_of (take i ts) → n ≡ length keys → 2000 < n → 2000 < length (nodes_of ts)
+pub large_nodes : (ts : List RightTerm) (i : ℕ) (keys : List NodeType) (n : ℕ) →
+    keys ≡ nodes_of (take i ts) → n ≡ length keys → 2000 < n → 2000 < length (nodes_of ts)
 large_nodes ts i keys n is counted more = let same : length keys ≡ length (nodes_of (take i ts)) = ap length is in omega (arith, same, counted, more, length-nodes-take ts i)
 
-pub large_term : (ts : List RightTerm) (i : ℕ) (t : RightTerm) (fs : List Pair) → i < length ts → t ≡ get_or ts i t → fs ≡ t.factors → 2000 < length (subs_of fs) → 2000 < length (nodes_of ts)
+pub large_term : (ts : List RightTerm) (i : ℕ) (t : RightTerm) (fs : List Pair) → i < length ts →
+    t ≡ get_or ts i t → fs ≡ t.factors → 2000 < length (subs_of fs) → 2000 < length (nodes_of ts)
 large_term ts i t fs lt is same more =
     let within = length-subs-within ts t (member_at ts i t lt is) in
     let counted : length (subs_of fs) ≡ length (subs_of t.factors) = ap (λ (gs : List Pair). length (subs_of gs)) same in
     omega (arith, within, counted, more)
 
 -- the rows before an unknown and its own row have no more node types than all rows
-pub nodes_in-take : (us : List Unknown) (i : ℕ) (u : Unknown) → i < length us → u ≡ get_or us i u → nodes_in (map row_of (take i us)) + length (nodes_of u.right) ≤ nodes_in (map row_of us)
+pub nodes_in-take : (us : List Unknown) (i : ℕ) (u : Unknown) → i < length us → u ≡ get_or us i u →
+    nodes_in (map row_of (take i us)) + length (nodes_of u.right) ≤ nodes_in (map row_of us)
 nodes_in-take [] i u lt is = absurd (omega arith)
 nodes_in-take (v ∷ us) zero u lt is = let same : length (nodes_of u.right) ≡ length (nodes_of v.right) = ap (λ (w : Unknown). length (nodes_of w.right)) is in omega (arith, same)
 nodes_in-take (v ∷ us) (suc i) u lt is = omega (arith, nodes_in-take us i u (omega arith) is)
 
-pub large_row : (us : List Unknown) (i : ℕ) (u : Unknown) (ts : List RightTerm) → i < length us → u ≡ get_or us i u → ts ≡ u.right → 2000 < length (nodes_of ts) → 2000 < nodes_in (map row_of us)
+pub large_row : (us : List Unknown) (i : ℕ) (u : Unknown) (ts : List RightTerm) → i < length us →
+    u ≡ get_or us i u → ts ≡ u.right → 2000 < length (nodes_of ts) → 2000 < nodes_in (map row_of us)
 large_row us i u ts lt is same more =
     let counted : length (nodes_of ts) ≡ length (nodes_of u.right) = ap (λ (rs : List RightTerm). length (nodes_of rs)) same in
     omega (arith, nodes_in-take us i u lt is, counted, more)
 
-pub large_rows : (us : List Unknown) (i : ℕ) (u : Unknown) (ts : List RightTerm) (nodes : List NodeType) (count n : ℕ) → i < length us → u ≡ get_or us i u → ts ≡ u.right → nodes ≡ nodes_of ts
+pub large_rows : (us : List Unknown) (i : ℕ) (u : Unknown) (ts : List RightTerm) (nodes : List NodeType) (count n : ℕ) →
+    i < length us → u ≡ get_or us i u → ts ≡ u.right → nodes ≡ nodes_of ts
     → count ≡ nodes_in (map row_of (take i us)) → n ≡ length nodes → 2000 < count + n → 2000 < nodes_in (map row_of us)
 large_rows us i u ts nodes count n lt is same made counted long more =
     let own : length nodes ≡ length (nodes_of u.right) = ap length made ∙ ap (λ (rs : List RightTerm). length (nodes_of rs)) same in
@@ -238,7 +247,9 @@ row_normal ty count u row terms h = record {
     none : (m : NodeType) → IsSubMultiset (pairs m) [] → m ≡ empty_node
     none m h = ap node (none-at m.edges h)
 
-rows_normal : (ty : Types) (count : ℕ) (us : List Unknown) (rows : List RuleRow) → All (IsUnknown ty count) us → AreRows us rows → (row : RuleRow) → IsIn row rows → IsNormalRow row
+rows_normal : (ty : Types) (count : ℕ) (us : List Unknown) (rows : List RuleRow) →
+    All (IsUnknown ty count) us → AreRows us rows → (row : RuleRow) → IsIn row rows →
+    IsNormalRow row
 rows_normal ty count [] [] terms h row k = absurd k
 rows_normal ty count [] (r ∷ rs) terms h row k = absurd h
 rows_normal ty count (u ∷ us) [] terms h row k = absurd h
@@ -252,7 +263,8 @@ pub rule_normal : (eq : Equation) (rule : Rule) → IsEquation eq → IsNormalRu
 rule_normal eq rule h r = rows_normal eq.types (length eq.parameters) eq.unknowns rule.rows h.unknowns r
 
 -- one unknown more
-pub rows_more : (us : List Unknown) (i : ℕ) (u : Unknown) → i < length us → u ≡ get_or us i u → map row_of (take (i + 1) us) ≡ map row_of (take i us) ++ row_of u ∷ []
+pub rows_more : (us : List Unknown) (i : ℕ) (u : Unknown) → i < length us → u ≡ get_or us i u →
+    map row_of (take (i + 1) us) ≡ map row_of (take i us) ++ row_of u ∷ []
 rows_more [] i u lt is = absurd (omega arith)
 rows_more (v ∷ us) zero u lt is = ap (λ (w : Unknown). row_of w ∷ []) (sym is)
 rows_more (v ∷ us) (suc i) u lt is = let s : suc i + 1 ≡ suc (i + 1) = omega arith in rw s (ap (λ (rs : List RuleRow). row_of v ∷ rs) (rows_more us i u (omega arith) is))
@@ -261,17 +273,20 @@ nodes_in-push : (rs : List RuleRow) (r : RuleRow) → nodes_in (rs ++ r ∷ []) 
 nodes_in-push [] r = omega arith
 nodes_in-push (s ∷ rs) r = omega (arith, nodes_in-push rs r)
 
-pub nodes_in_more : (us : List Unknown) (i : ℕ) (u : Unknown) → i < length us → u ≡ get_or us i u → nodes_in (map row_of (take (i + 1) us)) ≡ nodes_in (map row_of (take i us)) + length (nodes_of u.right)
+pub nodes_in_more : (us : List Unknown) (i : ℕ) (u : Unknown) → i < length us → u ≡ get_or us i u →
+    nodes_in (map row_of (take (i + 1) us)) ≡ nodes_in (map row_of (take i us)) + length (nodes_of u.right)
 nodes_in_more us i u lt is = ap nodes_in (rows_more us i u lt is) ∙ nodes_in-push (map row_of (take i us)) (row_of u)
 
 -- a row more, from what the loop reads
-pub step_rows : (us : List Unknown) (i : ℕ) (u : Unknown) (ts : List RightTerm) (nodes : List NodeType) (rows next : List RuleRow) → i < length us → u ≡ get_or us i u → ts ≡ u.right → nodes ≡ nodes_of ts
+pub step_rows : (us : List Unknown) (i : ℕ) (u : Unknown) (ts : List RightTerm) (nodes : List NodeType) (rows next : List RuleRow) →
+    i < length us → u ≡ get_or us i u → ts ≡ u.right → nodes ≡ nodes_of ts
     → rows ≡ map row_of (take i us) → next ≡ rows ++ record { kernel = u.kernel; nodes = nodes } ∷ [] → next ≡ map row_of (take (i + 1) us)
 step_rows us i u ts nodes rows next lt is same made before step =
     let own : nodes ≡ nodes_of u.right = made ∙ ap nodes_of same in
     step ∙ ap (λ (ns : List NodeType). rows ++ record { kernel = u.kernel; nodes = ns } ∷ []) own ∙ ap (λ (rs : List RuleRow). rs ++ row_of u ∷ []) before ∙ sym (rows_more us i u lt is)
 
-pub step_count : (us : List Unknown) (i : ℕ) (u : Unknown) (ts : List RightTerm) (nodes : List NodeType) (count n : ℕ) → i < length us → u ≡ get_or us i u → ts ≡ u.right → nodes ≡ nodes_of ts
+pub step_count : (us : List Unknown) (i : ℕ) (u : Unknown) (ts : List RightTerm) (nodes : List NodeType) (count n : ℕ) →
+    i < length us → u ≡ get_or us i u → ts ≡ u.right → nodes ≡ nodes_of ts
     → count ≡ nodes_in (map row_of (take i us)) → n ≡ length nodes → count + n ≡ nodes_in (map row_of (take (i + 1) us))
 step_count us i u ts nodes count n lt is same made counted long =
     let own : length nodes ≡ length (nodes_of u.right) = ap length made ∙ ap (λ (rs : List RightTerm). length (nodes_of rs)) same in

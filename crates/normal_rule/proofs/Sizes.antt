@@ -48,7 +48,9 @@ by_within : (kind : Kind) (d r : ℤ) → IsWithin d 20000000 → IsWithin r 200
 by_within Noise d r h k = h
 by_within Kernel d r h k = k
 
-at_within : (o : Option TypeEntry) (r : ℤ) → IsWithin (unwrap_or (option_map (λ e. e.degree) o) degree_zero).a 20000000 → IsWithin r 20000000 → IsWithin (regularity_at o r) 20000000
+at_within : (o : Option TypeEntry) (r : ℤ) →
+    IsWithin (unwrap_or (option_map (λ e. e.degree) o) degree_zero).a 20000000 →
+    IsWithin r 20000000 → IsWithin (regularity_at o r) 20000000
 at_within None r h k = k
 at_within (Some e) r h k = by_within e.kind e.degree.a r h k
 

@@ -1,5 +1,10 @@
 -- The gap as it is found: the least difference in a list of node types, and in rows.
+-- Working notions of the code and of proofs, which no contract of a public call names:
+--   greatest == 2^63-1, where a search for the least difference begins
+--   least_difference eq t gap n == the lesser of gap and the difference of kernel t and the node
+--       type n
 --   nodes_gap eq t nodes == the least difference of kernel t and the node types
+--   least_gap eq gap row == the lesser of gap and the least difference in the row
 --   rows_gap eq rows == the least of these over the rows
 use Rattle.std.specs.Prelude.{ℕ, ℤ, pos, List, fold, ◌-◌, ◌^◌}
 use Rattle.std.specs.Int.{int_min}

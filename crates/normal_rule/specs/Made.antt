@@ -1,7 +1,15 @@
--- The normal rule as it is made: each term's sub-multisets by putting in its factors one after the other.
+-- The normal rule as it is made: each term's sub-multisets by putting in its factors one after the
+-- other.
+-- Working notions of the code and of proofs, which no contract of a public call names:
+--   edge_of f == the edge type of a factor
 --   with_factor f n == n with the factor f at its end
+--   grow ns f == the node types ns, and each of them with the factor f at its end, in their order,
+--       each once
 --   subs_of fs == the sub-multisets of the factors fs, in their order, each once
---   nodes_of right == the node types that the terms of a right side allow, in their order, each once
+--   put_term ns t == ns and the sub-multisets of the factors of the term t, in their order, each
+--       once
+--   nodes_of right == the node types that the terms of a right side allow, in their order, each
+--       once
 --   row_of u, rule_of eq == the row of an unknown, and the rule
 use Rattle.std.specs.Prelude.{List, [], ◌∷◌, ◌++◌, map, fold}
 use Rattle.equations.specs.declared.equation.Equation.{Equation}

@@ -4,6 +4,7 @@
 --   edge_order e f == by type number, then by multiindex
 --   node_order n m == by length, then by edge types from the front
 --   empty_node == the node type without edge types
+--   edge_order_total, node_order_total == both orders are total
 use Rattle.std.specs.Prelude.{List, [], length, map}
 use Rattle.std.specs.declared.cmp.Ordering.{Ordering}
 use Rattle.std.specs.Ordering.{nat_cmp, on, then_cmp}
@@ -33,4 +34,5 @@ pub edge_order_total : IsTotalOrder edge_order
 edge_order_total = on_total pair_of edge_type_order_total
 
 pub node_order_total : IsTotalOrder node_order
-node_order_total = then_total (on_total (λ n. length n.edges) nat_cmp_total) (on_total (λ n. n.edges) (lists_total edge_order_total))
+node_order_total = then_total (on_total (λ n. length n.edges) nat_cmp_total)
+    (on_total (λ n. n.edges) (lists_total edge_order_total))

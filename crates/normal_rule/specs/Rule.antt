@@ -1,10 +1,14 @@
 -- The normal rule of an equation (after Bruned, Hairer and Zambotti, section 5).
---   IsAllowed u n == n is empty, or a sub-multiset of the factors of a term of the right side of u whose coefficient is not 0
---   IsRow u row == the row is that of the kernel of u: the node types that u allows, in their order, each once
+--   IsAllowed u n == n is empty, or a sub-multiset of the factors of a term of the right side of u
+--       whose coefficient is not 0
+--   IsRow u row == the row is that of the kernel of u: the node types that u allows, in their
+--       order, each once
 --   AreRows us rows == one row for each unknown, in order
 --   IsNormalRule eq rule == the rule is the normal rule of eq
---   node_count rule == how many node types the rows have together
---   IsNormalRow row == node types in their order, each once and each in order, among them the empty one, and with each all its sub-multisets
+--   nodes_in rows == how many node types the rows have together
+--   node_count rule == how many node types the rule has
+--   IsNormalRow row == node types in their order, each once and each in order, among them the empty
+--       one, and with each all its sub-multisets
 --   IsNormal rule == each row is normal
 use Rattle.std.specs.Prelude.{◌≡◌, ◌≢◌, ℕ, ◌+◌, pos, List, [], ◌∷◌, ◌⊎◌, ⊤, length}
 use Rattle.std.specs.List.Sorted.{IsStrictlySortedBy}
@@ -20,7 +24,8 @@ use Rattle.normal_rule.specs.declared.rule.Rule.{Rule}
 use Rattle.normal_rule.specs.Order.{pairs, node_order, empty_node}
 
 abbrev pub IsAllowed : Unknown → NodeType → Type 0
-IsAllowed u n = (n ≡ empty_node) ⊎ ((t : RightTerm) × IsIn t u.right × (t.coefficient ≢ pos 0) × IsSubMultiset (pairs n) t.factors)
+IsAllowed u n = (n ≡ empty_node) ⊎ ((t : RightTerm) × IsIn t u.right × (t.coefficient ≢ pos 0)
+    × IsSubMultiset (pairs n) t.factors)
 
 pub record IsRow (u : Unknown) (row : RuleRow) : Type 0 where
   pub kernel : row.kernel ≡ u.kernel
@@ -48,7 +53,8 @@ pub record IsNormalRow (row : RuleRow) : Type 0 where
   pub ascending : IsStrictlySortedBy node_order row.nodes
   pub in_order : (n : NodeType) → IsIn n row.nodes → IsInOrder (pairs n)
   pub empty : IsIn empty_node row.nodes
-  pub closed : (n m : NodeType) → IsIn n row.nodes → IsSubMultiset (pairs m) (pairs n) → IsIn m row.nodes
+  pub closed : (n m : NodeType) → IsIn n row.nodes → IsSubMultiset (pairs m) (pairs n) →
+      IsIn m row.nodes
 
 abbrev pub IsNormal : Rule → Type 0
 IsNormal rule = (row : RuleRow) → IsIn row rule.rows → IsNormalRow row

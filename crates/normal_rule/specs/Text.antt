@@ -1,6 +1,10 @@
 -- Texts of node types.
---   AreKnown ty rows == the edge types of all node types are those of types in the list
---   node_type_text ty n == `1` where n is empty, else its edge types, joined by `*`
+--   edge_text ty e == the text of the edge type e
+--   further_edges_text ty es == the texts of es, each after a `*`
+--   edges_text ty es == `1` where there are none, else the texts of es, joined by `*`
+--   AreKnown ty rows == so it is with each node type of the rows
+--   node_type_text ty n == the same of the edge types of n
+--   IsKnownNode ty n == the edge types of the node type n are those of types in the list
 use Rattle.std.specs.Prelude.{ℕ, ◌<◌, List, [], ◌∷◌, ◌++◌, length}
 use Rattle.std.specs.List.{All}
 use Rattle.degree_numbers.specs.declared.types.Types.{Types}

@@ -1,4 +1,5 @@
-//! The normal rule of an equation, and the inequality of regularities.
+//! The normal rule of an equation, and the inequality of regularities. They speak of edge types
+//! alone, and stand below the trees.
 #![tactic(auto)]
 
 mod laws;

@@ -13,7 +13,8 @@ use crate::rule::{EdgeType, NodeType, Rule, RuleRow};
 use degree_numbers::{Degree, Kind, Multi, TypeId};
 use equations::{Equation, Unknown};
 
-/// Where the inequality of regularities fails: the first kernel, the number of its first node type at which it does, and both sides there, in standard parts.
+/// Where the inequality of regularities fails: the first kernel, the number of its first node type
+/// at which it does, and both sides there, in standard parts.
 #[derive(Clone, Copy, Debug, PartialEq, Eq)]
 pub struct NotSubcritical {
     pub kernel: TypeId,
@@ -41,7 +42,8 @@ fn kernel_regularity(unknowns: &[Unknown], kernel: TypeId) -> Degree
     Degree { a: 0, b: 0 }
 }
 
-/// The regularity of a type, in standard parts: of a noise its degree, of a kernel what the file gives.
+/// The regularity of a type, in standard parts: of a noise its degree, of a kernel what the file
+/// gives.
 pub fn regularity_of(eq: &Equation, kind: TypeId) -> Degree
     ensures { result ≡ standard (regularity_of eq.now kind.0) }
 {
@@ -112,7 +114,8 @@ fn node_regularity(eq: &Equation, node: &NodeType) -> Degree
     sum
 }
 
-/// The right side |t| + reg(N) of the inequality of regularities for a kernel t and a node type N, in standard parts.
+/// The right side |t| + reg(N) of the inequality of regularities for a kernel t and a node type N,
+/// in standard parts.
 pub fn right_side(eq: &Equation, kernel: TypeId, node: &NodeType) -> Degree
     requires equation { IsEquation eq.now }
     requires measured { IsMeasuredNode node.now }
@@ -167,7 +170,8 @@ fn check_nodes(eq: &Equation, kernel: TypeId, nodes: &[NodeType]) -> Result<Degr
     ensures hold { OnOk result (prefix_len (holds eq.now kernel.0) nodes.now ≡ length nodes.now) }
     ensures node { IfErr result (λ f. f.node ≡ prefix_len (holds eq.now kernel.0) nodes.now) }
     ensures inside { IfErr result (λ f. f.node < length nodes.now) }
-    ensures right { IfErr result (λ f. f.right ≡ standard (right_side eq.now kernel.0 (slice_index_or nodes.now f.node empty_node))) }
+    ensures right { IfErr result (λ f. f.right
+        ≡ standard (right_side eq.now kernel.0 (slice_index_or nodes.now f.node empty_node))) }
 {
     let mut gap = Degree { a: i64::MAX, b: 0 };
     for (i, node) in nodes.iter().enumerate() {
@@ -204,9 +208,10 @@ fn check_rows(eq: &Equation, rows: &[RuleRow]) -> Result<Degree, NotSubcritical>
     Ok(gap)
 }
 
-/// The gap of a rule: the least difference of the two sides of the inequality of regularities, reg(t) < |t| + reg(N) for each kernel t and each node type N
-/// of its row (after Bruned, Hairer and Zambotti), in standard parts. Where the inequality fails, answers the first kernel and its first node type at which it
-/// does, with both sides. Takes no memory.
+/// The gap of a rule: the least difference of the two sides of the inequality of regularities,
+/// reg(t) < |t| + reg(N) for each kernel t and each node type N of its row (after Bruned, Hairer
+/// and Zambotti), in standard parts. Where the inequality fails, answers the first kernel and its
+/// first node type at which it does, with both sides. Takes no memory.
 pub fn check_regularity(eq: &Equation, rule: &Rule) -> Result<Degree, NotSubcritical>
     requires equation { IsEquation eq.now }
     requires rows { HasRows eq.now rule.now }

@@ -50,10 +50,12 @@ fn put_all(nodes: Vec<NodeType>, into: &mut BTreeSet<NodeType>) -> Result<(), Al
     Ok(())
 }
 
-// The sub-multisets of a term's factors. Those of the first factors are sub-multisets of all, so what is too large before a factor is so at the end.
+// The sub-multisets of a term's factors. Those of the first factors are sub-multisets of all, so
+// what is too large before a factor is so at the end.
 fn sub_multisets(alloc: Global, factors: &[(TypeId, Multi)]) -> Result<Vec<NodeType>, RuleRefusal>
     ensures nodes { IfOk result (λ v. v.items ≡ subs_of factors.now) }
-    ensures large { IfErr result (λ e. e ≡ RuleTooLarge → MOST_NODE_TYPES < length (subs_of factors.now)) }
+    ensures large { IfErr result (λ e. e ≡ RuleTooLarge →
+        MOST_NODE_TYPES < length (subs_of factors.now)) }
 {
     let mut nodes = empty_alone(alloc)?;
     for factor in factors {
@@ -68,7 +70,8 @@ fn sub_multisets(alloc: Global, factors: &[(TypeId, Multi)]) -> Result<Vec<NodeT
 // The node types that a right side allows.
 fn nodes_of(alloc: Global, right: &[RightTerm]) -> Result<Items<NodeType>, RuleRefusal>
     ensures nodes { IfOk result (λ items. items ≡ nodes_of right.now) }
-    ensures large { IfErr result (λ e. e ≡ RuleTooLarge → MOST_NODE_TYPES < length (nodes_of right.now)) }
+    ensures large { IfErr result (λ e. e ≡ RuleTooLarge →
+        MOST_NODE_TYPES < length (nodes_of right.now)) }
 {
     let mut nodes = empty_alone(alloc)?;
     for term in right {
@@ -84,7 +87,8 @@ fn nodes_of(alloc: Global, right: &[RightTerm]) -> Result<Items<NodeType>, RuleR
 fn rows_of(alloc: Global, unknowns: &[Unknown]) -> Result<Items<RuleRow>, RuleRefusal>
     ensures rows { IfOk result (λ rows. rows ≡ map row_of unknowns.now) }
     ensures small { IfOk result (λ rows. nodes_in rows ≤ MOST_NODE_TYPES) }
-    ensures large { IfErr result (λ e. e ≡ RuleTooLarge → MOST_NODE_TYPES < nodes_in (map row_of unknowns.now)) }
+    ensures large { IfErr result (λ e. e ≡ RuleTooLarge →
+        MOST_NODE_TYPES < nodes_in (map row_of unknowns.now)) }
 {
     let mut rows = Items::new(alloc);
     let mut count = 0;
@@ -105,14 +109,17 @@ fn rows_of(alloc: Global, unknowns: &[Unknown]) -> Result<Items<RuleRow>, RuleRe
 fn made(alloc: Global, eq: &Equation) -> Result<Rule, RuleRefusal>
     ensures rule { IfOk result (λ rule. rule ≡ rule_of eq.now) }
     ensures small { IfOk result (λ rule. node_count rule ≤ MOST_NODE_TYPES) }
-    ensures large { IfErr result (λ e. e ≡ RuleTooLarge → MOST_NODE_TYPES < node_count (rule_of eq.now)) }
+    ensures large { IfErr result (λ e. e ≡ RuleTooLarge →
+        MOST_NODE_TYPES < node_count (rule_of eq.now)) }
 {
     let rows = rows_of(alloc, eq.unknowns.as_slice())?;
     Ok(Rule { rows })
 }
 
-/// The normal rule of an equation: for each kernel the empty node type and the sub-multisets of the factors of each term of its right side (after Bruned,
-/// Hairer and Zambotti). It is what `list_trees` and `complete` ask of a rule. Fails with `RuleTooLarge` exactly where the rows together have more than 2,000 node types, and for want of memory.
+/// The normal rule of an equation: for each kernel the empty node type and the sub-multisets of the
+/// factors of each term of its right side (after Bruned, Hairer and Zambotti). It is what
+/// `list_trees` and `complete` ask of a rule. Fails with `RuleTooLarge` exactly where the rows
+/// together have more than 2,000 node types (`MOST_NODE_TYPES`), and for want of memory.
 pub fn normal_rule(alloc: Global, eq: &Equation) -> Result<Rule, RuleRefusal>
     requires { IsEquation eq.now }
     ensures rule { IfOk result (λ rule. IsNormalRule eq.now rule) }
@@ -122,7 +129,8 @@ pub fn normal_rule(alloc: Global, eq: &Equation) -> Result<Rule, RuleRefusal>
     ensures known { IfOk result (λ rule. AreKnown eq.now.types rule.rows) }
     ensures over_types { IfOk result (λ rule. IsRule eq.now rule) }
     ensures small { IfOk result (λ rule. node_count rule ≤ MOST_NODE_TYPES) }
-    ensures large { IfErr result (λ e. e ≡ RuleTooLarge → (rule : Rule) × IsNormalRule eq.now rule × (MOST_NODE_TYPES < node_count rule)) }
+    ensures large { IfErr result (λ e. e ≡ RuleTooLarge →
+        (rule : Rule) × IsNormalRule eq.now rule × (MOST_NODE_TYPES < node_count rule)) }
 {
     made(alloc, eq)
 }

@@ -11,7 +11,8 @@ use std::alloc::{AllocError, Global};
 fn put_further(out: &mut Vec<u8>, types: &Types, edges: &[EdgeType]) -> Result<(), AllocError>
     requires types { AreTypes types.now }
     requires known { All (λ e. e.kind.0 < length types.now.list) edges.now }
-    ensures { OnOk result (out.new.items ≡ out.old.items ++ further_edges_text types.now edges.now) }
+    ensures { OnOk result (out.new.items ≡ out.old.items
+        ++ further_edges_text types.now edges.now) }
 {
     for edge in edges {
         out.push(b'*')?;
@@ -43,7 +44,8 @@ pub fn put_node_type(out: &mut Vec<u8>, types: &Types, node: &NodeType) -> Resul
     put_edges(out, types, node.edges.as_slice())
 }
 
-/// The text of a node type: `1` where it is empty, else its edge types joined by `*`, each the name of its type, and `'` with the multiindex where that is not
+/// The text of a node type: `1` where it is empty, else its edge types joined by `*`, each the name
+/// of its type, and `'` with the multiindex where that is not
 /// 0. Fails only for want of memory.
 pub fn print_node_type(
     alloc: Global,

@@ -35,7 +35,10 @@ pub numeral_at : (ds : List ℕ) (i : ℕ) → is_numeral ds ≡ true → i < le
 numeral_at ds i h l = in_range (get_or ds i 0) (digit_at ds i (digits_parts ds h) l)
 
 -- the number with one more digit
-pub magnitude_push : (ds : List ℕ) (i number next : ℕ) → i < length ds → IsInRange 48 57 (get_or ds i 0) → number ≡ saturated (digits_value 10 (take i ds)) → next ≡ saturated (number * 10 + (get_or ds i 0 - 48)) → next ≡ saturated (digits_value 10 (take (i + 1) ds))
+pub magnitude_push : (ds : List ℕ) (i number next : ℕ) → i < length ds →
+    IsInRange 48 57 (get_or ds i 0) → number ≡ saturated (digits_value 10 (take i ds)) →
+    next ≡ saturated (number * 10 + (get_or ds i 0 - 48)) →
+    next ≡ saturated (digits_value 10 (take (i + 1) ds))
 magnitude_push ds i number next lt range now step =
     rw (take_more ds i 0 lt, digits_value_push 10 (take i ds) (get_or ds i 0)) (omega (arith, digit_value_digit (get_or ds i 0) range))
 

@@ -1,4 +1,5 @@
 -- Numbers of any size in decimal.
+--   last_digits k n == at most the last k + 1 decimal digits of n
 --   numeral n == the decimal digits of n
 --   is_numeral ds == ds are digits, and the first of them is not 0: the digits of a number above 0
 use Rattle.std.specs.Prelude.{ℕ, zero, suc, ◌+◌, ◌/◌, ◌%◌, ◌==◌, ◌&&◌, not, Bool, false, List, [], ◌∷◌, ◌++◌, if◌then◌else◌}

@@ -1,4 +1,5 @@
-//! Numbers of any size in decimal, without leading zeros: what is written of a number, and the number that digits write.
+//! Numbers of any size in decimal, without leading zeros: what is written of a number, and the
+//! number that digits write. Polynomials, tables and reports share it.
 #![tactic(auto)]
 
 mod digits;

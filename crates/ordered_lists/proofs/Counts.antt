@@ -75,7 +75,8 @@ module _ {X : Type 0} (R : X → X → Ordering) (o : IsTotalOrder R) where
 
 module _ {X : Type 0} (R : X → X → Ordering) (o : IsTotalOrder R) (exact : IsAntisymmetric R) where
   -- without an element that stands in neither more often, or that the smaller one has not
-  later : (z n x : X) (ns xs : List X) → R n x ≡ Greater → IsSorted R (n ∷ ns) → count_of R z (n ∷ ns) ≤ count_of R z (x ∷ xs) → count_of R z (n ∷ ns) ≤ count_of R z xs
+  later : (z n x : X) (ns xs : List X) → R n x ≡ Greater → IsSorted R (n ∷ ns) →
+      count_of R z (n ∷ ns) ≤ count_of R z (x ∷ xs) → count_of R z (n ∷ ns) ≤ count_of R z xs
   later z n x ns xs e h le =
       (elim (R z x) as (λ (r : Ordering). R z x ≡ r → count_of R z (n ∷ ns) ≤ count_of R z xs) [
         | Less ↦ λ q. let w : one R z x ≡ 0 = ap unit_at q in omega (arith, le, w)

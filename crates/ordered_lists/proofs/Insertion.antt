@@ -1,4 +1,5 @@
--- Sorted lists of distinct members: what stands in one after members are put in, and that its members determine it.
+-- Sorted lists of distinct members: what stands in one after members are put in, and that its
+-- members determine it.
 use Rattle.std.proofs.Common.{◌≡◌, List, [], ◌∷◌, refl, ap, sym, ◌∙◌, subst, inl, inr, ◌⊎◌}
 use Rattle.std.specs.declared.cmp.Ordering.{Ordering}
 use Rattle.std.specs.declared.cmp.Ordering.TheVariants.{Less, Equal, Greater}
@@ -39,11 +40,13 @@ insert_key_new {K} c exact (x ∷ xs) k =
     ]) refl
 
 -- a key below the first is below all
-pub below_all : {K : Type 0} (c : K → K → Ordering) → IsTotalOrder c → (k x : K) (xs : List K) → c k x ≡ Less → AllByRecursion (λ y. c x y ≡ Less) xs → AllByRecursion (λ y. c k y ≡ Less) xs
+pub below_all : {K : Type 0} (c : K → K → Ordering) → IsTotalOrder c → (k x : K) (xs : List K) →
+    c k x ≡ Less → AllByRecursion (λ y. c x y ≡ Less) xs → AllByRecursion (λ y. c k y ≡ Less) xs
 below_all c o k x [] e h = tt
 below_all c o k x (y ∷ ys) e h = (o.trans k x y e h.0, below_all c o k x ys e h.1)
 
-above_insert_key : {K : Type 0} (c : K → K → Ordering) (x k : K) (xs : List K) → c x k ≡ Less → AllByRecursion (λ y. c x y ≡ Less) xs → AllByRecursion (λ y. c x y ≡ Less) (insert_key c xs k)
+above_insert_key : {K : Type 0} (c : K → K → Ordering) (x k : K) (xs : List K) → c x k ≡ Less →
+    AllByRecursion (λ y. c x y ≡ Less) xs → AllByRecursion (λ y. c x y ≡ Less) (insert_key c xs k)
 above_insert_key c x k [] e h = (e, tt)
 above_insert_key c x k (y ∷ ys) e h =
     elim (c k y) as (λ o. AllByRecursion (λ z. c x z ≡ Less) (match_ordering o (k ∷ y ∷ ys) (y ∷ ys) (y ∷ insert_key c ys k))) [
@@ -52,7 +55,8 @@ above_insert_key c x k (y ∷ ys) e h =
       | Greater ↦ (h.0, above_insert_key c x k ys e h.1)
     ]
 
-pub insert_key_sorted : {K : Type 0} (c : K → K → Ordering) → IsTotalOrder c → (ks : List K) (k : K) → IsStrictlySortedBy c ks → IsStrictlySortedBy c (insert_key c ks k)
+pub insert_key_sorted : {K : Type 0} (c : K → K → Ordering) → IsTotalOrder c →
+    (ks : List K) (k : K) → IsStrictlySortedBy c ks → IsStrictlySortedBy c (insert_key c ks k)
 unfolding IsStrictlySortedBy
 insert_key_sorted c o [] k h = (tt, tt)
 insert_key_sorted c o (x ∷ xs) k h =
@@ -77,7 +81,8 @@ insert_all_new c exact ks [] n h = absurd h
 insert_all_new c exact ks (x ∷ xs) n h =
     elim h [ inl e ↦ insert_all_old c (insert_key c ks x) xs n (subst (λ y. IsIn y (insert_key c ks x)) e (insert_key_new c exact ks x)) | inr r ↦ insert_all_new c exact (insert_key c ks x) xs n r ]
 
-pub insert_all_sorted : {K : Type 0} (c : K → K → Ordering) → IsTotalOrder c → (ks ns : List K) → IsStrictlySortedBy c ks → IsStrictlySortedBy c (insert_all c ks ns)
+pub insert_all_sorted : {K : Type 0} (c : K → K → Ordering) → IsTotalOrder c → (ks ns : List K) →
+    IsStrictlySortedBy c ks → IsStrictlySortedBy c (insert_all c ks ns)
 insert_all_sorted c o ks [] h = h
 insert_all_sorted c o ks (x ∷ xs) h = insert_all_sorted c o (insert_key c ks x) xs (insert_key_sorted c o ks x h)
 
@@ -89,7 +94,8 @@ pub not_below_itself : {K : Type 0} (c : K → K → Ordering) → IsTotalOrder 
 not_below_itself c o x e = let t = tied_itself o x in cc
 
 -- a first key that is below the first of another list does not stand in it
-pub missing : {K : Type 0} (c : K → K → Ordering) → IsTotalOrder c → (x y : K) (ys : List K) → c x y ≡ Less → AllByRecursion (λ z. c y z ≡ Less) ys → IsIn x (y ∷ ys) → ⊥
+pub missing : {K : Type 0} (c : K → K → Ordering) → IsTotalOrder c → (x y : K) (ys : List K) →
+    c x y ≡ Less → AllByRecursion (λ z. c y z ≡ Less) ys → IsIn x (y ∷ ys) → ⊥
 missing {K} c o x y ys e a h =
     elim h [
       | inl q ↦ not_below_itself c o x (subst (λ (z : K). c x z ≡ Less) q e)
@@ -97,14 +103,16 @@ missing {K} c o x y ys e a h =
     ]
 
 -- the members of the rest
-pub rest_in : {K : Type 0} (c : K → K → Ordering) → IsTotalOrder c → (x y n : K) (xs ys : List K) → x ≡ y → AllByRecursion (λ z. c x z ≡ Less) xs → IsIn n xs → IsIn n (y ∷ ys) → IsIn n ys
+pub rest_in : {K : Type 0} (c : K → K → Ordering) → IsTotalOrder c → (x y n : K) (xs ys : List K) →
+    x ≡ y → AllByRecursion (λ z. c x z ≡ Less) xs → IsIn n xs → IsIn n (y ∷ ys) → IsIn n ys
 rest_in {K} c o x y n xs ys e a h g =
     elim g [
       | inl q ↦ absurd (not_below_itself c o x (subst (λ (z : K). c x z ≡ Less) (sym q ∙ sym e) (all_at_member (λ z. c x z ≡ Less) xs n a h)))
       | inr r ↦ r
     ]
 
-pub strictly_sorted_unique : {K : Type 0} (c : K → K → Ordering) → IsTotalOrder c → IsAntisymmetric c → (xs ys : List K) → IsStrictlySortedBy c xs → IsStrictlySortedBy c ys
+pub strictly_sorted_unique : {K : Type 0} (c : K → K → Ordering) → IsTotalOrder c →
+    IsAntisymmetric c → (xs ys : List K) → IsStrictlySortedBy c xs → IsStrictlySortedBy c ys
     → ((n : K) → IsIn n xs → IsIn n ys) → ((n : K) → IsIn n ys → IsIn n xs) → xs ≡ ys
 unfolding IsStrictlySortedBy
 strictly_sorted_unique c o exact [] [] s r f g = refl

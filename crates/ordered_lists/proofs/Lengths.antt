@@ -22,7 +22,8 @@ length-insert_all c ks [] = omega arith
 length-insert_all c ks (n ∷ ns) = omega (arith, length-insert_key c ks n, length-insert_all c (insert_key c ks n) ns)
 
 -- what stands in the rest of the one list, stands in the rest of the other
-later : {K : Type 0} (c : K → K → Ordering) → IsTotalOrder c → (x y n : K) (xs ys : List K) → c y x ≡ Less → IsStrictlySortedBy c (x ∷ xs) → IsIn n (x ∷ xs) → IsIn n (y ∷ ys) → IsIn n ys
+later : {K : Type 0} (c : K → K → Ordering) → IsTotalOrder c → (x y n : K) (xs ys : List K) →
+    c y x ≡ Less → IsStrictlySortedBy c (x ∷ xs) → IsIn n (x ∷ xs) → IsIn n (y ∷ ys) → IsIn n ys
 unfolding IsStrictlySortedBy
 later {K} c o x y n xs ys e s h k =
     elim k [
@@ -31,7 +32,9 @@ later {K} c o x y n xs ys e s h k =
     ]
 
 -- the members of one list are no more than those of another that has them
-pub length-within : {K : Type 0} (c : K → K → Ordering) → IsTotalOrder c → IsAntisymmetric c → (xs ys : List K) → IsStrictlySortedBy c xs → IsStrictlySortedBy c ys → ((n : K) → IsIn n xs → IsIn n ys) → length xs ≤ length ys
+pub length-within : {K : Type 0} (c : K → K → Ordering) → IsTotalOrder c → IsAntisymmetric c →
+    (xs ys : List K) → IsStrictlySortedBy c xs → IsStrictlySortedBy c ys →
+    ((n : K) → IsIn n xs → IsIn n ys) → length xs ≤ length ys
 unfolding IsStrictlySortedBy
 length-within c o exact [] ys s r f = omega arith
 length-within c o exact (x ∷ xs) [] s r f = absurd (f x (inl refl))

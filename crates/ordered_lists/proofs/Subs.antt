@@ -55,7 +55,8 @@ in_grown all (x ∷ xs) m (n ∷ ns) h k =
       | inr left ↦ in_grown (grow all x) xs m (n ∷ ns) (in_append_left m all (with_last x all) h) left
     ]
 
-from_grown : {X : Type 0} (all : List (List X)) (xs n : List X) → IsIn n (fold grow all xs) → (m : List X) × (s : List X) × IsIn m all × IsSubMultiset s xs × (m ++ s ≡ n)
+from_grown : {X : Type 0} (all : List (List X)) (xs n : List X) → IsIn n (fold grow all xs) →
+    (m : List X) × (s : List X) × IsIn m all × IsSubMultiset s xs × (m ++ s ≡ n)
 from_grown all [] n h = (n, [], h, tt, append-nil n)
 from_grown all (x ∷ xs) n h =
     let r = from_grown (grow all x) xs n h in

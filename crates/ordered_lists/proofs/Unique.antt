@@ -1,4 +1,5 @@
--- Two sorted lists with the same elements are equal, by the counts of the elements, where the order is exact.
+-- Two sorted lists with the same elements are equal, by the counts of the elements, where the order
+-- is exact.
 use Rattle.std.proofs.Common.{◌≡◌, ℕ, ◌+◌, suc, false, cond, List, [], ◌∷◌, refl, sym, ap, ◌∙◌, arith, Ordering, Less, Equal, Greater, is_lt}
 use Rattle.std.specs.Ordering.{ordering_reverse, is_eq}
 use Rattle.std.specs.Cmp.{IsTotalOrder}
@@ -45,7 +46,8 @@ module _ {X : Type 0} (R : X → X → Ordering) (o : IsTotalOrder R) where
   own x = ap (λ (a : Ordering). cond (is_eq a) 1 0) (own_equal (R x x) (o.antisymm x x))
 
 module _ {X : Type 0} (R : X → X → Ordering) (o : IsTotalOrder R) (exact : IsAntisymmetric R) where
-  unique-at : (x y : X) (xs ys : List X) (a : Ordering) → R x y ≡ a → IsSorted R (x ∷ xs) → IsSorted R (y ∷ ys) → ((z : X) → count_of R z (x ∷ xs) ≡ count_of R z (y ∷ ys)) → x ≡ y
+  unique-at : (x y : X) (xs ys : List X) (a : Ordering) → R x y ≡ a → IsSorted R (x ∷ xs) →
+      IsSorted R (y ∷ ys) → ((z : X) → count_of R z (x ∷ xs) ≡ count_of R z (y ∷ ys)) → x ≡ y
   unique-at x y xs ys Less e h k same = absurd (omega (arith, own R o x, same x, absent R o x y ys e k))
   unique-at x y xs ys Equal e h k same = exact x y e
   unique-at x y xs ys Greater e h k same = absurd (omega (arith, own R o y, same y, absent R o y x xs (o.antisymm y x ∙ ap ordering_reverse e) h))

@@ -1,7 +1,8 @@
 -- Members of lists, and sorted lists of distinct members.
 --   IsIn n xs == n is a member of xs
 --   HaveSameMembers xs ys == the members of xs are those of ys
---   insert_all c ks ns == the sorted list ks with each member of ns put in at its place, unless it is there
+--   insert_all c ks ns == the sorted list ks with each member of ns put in at its place, unless it
+--       is there
 use Rattle.std.specs.Prelude.{◌≡◌, List, [], ◌∷◌, ◌⊎◌, fold}
 use Rattle.std.specs.BTreeSet.{insert_key}
 use Rattle.std.specs.declared.cmp.Ordering.{Ordering}

@@ -1,5 +1,6 @@
 -- Multisets as sorted lists.
---   IsSubMultiset ns xs == ns is xs with some of its members left out; of a multiset that is seen as a sorted list, these are the sub-multisets
+--   IsSubMultiset ns xs == ns is xs with some of its members left out; of a multiset that is seen
+--       as a sorted list, these are the sub-multisets
 --   count_of c n xs == how often n stands in xs, by the order c
 --   with_last n all == the lists of `all`, each with n at its end
 --   sub_lists xs == the lists that are xs with some of its members left out, one for each choice

@@ -1,5 +1,5 @@
-//! Lists in order: members, insertion, what determines a sorted list, sub-multisets. The laws are clauses of functions that do nothing; the lemmas of
-//! `proofs` are theirs and other crates' too.
+//! Lists in order: members, insertion, what determines a sorted list, sub-multisets. The laws are
+//! clauses of functions that do nothing; the lemmas of `proofs` are theirs and other crates' too.
 #![tactic(auto)]
 
 mod laws;

@@ -76,7 +76,8 @@ at_most-with : (e f : Planted) (t : Plain) → gt e f ≡ true → IsAtMostFirst
 at_most-with e f (bare n) h k = asymmetric planted_order planted_total e f h
 at_most-with e f (graft k p c t) h l = at_most-at e f (planted k p c) t (gt e (planted k p c)) refl h l
 
-with-canonical-at : (e f : Planted) (t : Plain) (a : Bool) → gt e f ≡ a → IsCanonical e.child → IsCanonical (over f t) → IsCanonical (with_edge e t) → IsCanonical (with_edge e (over f t))
+with-canonical-at : (e f : Planted) (t : Plain) (a : Bool) → gt e f ≡ a → IsCanonical e.child →
+    IsCanonical (over f t) → IsCanonical (with_edge e t) → IsCanonical (with_edge e (over f t))
 with-canonical-at e f t true h c d ih = rw (passes e f t h) (d.0, ih, at_most-with e f t h d.2)
 with-canonical-at e f t false h c d ih = rw (stops e f t h) (c, d, h)
 

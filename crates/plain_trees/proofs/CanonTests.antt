@@ -21,7 +21,8 @@ alone (x ∷ []) zero h = tt
 alone (x ∷ y ∷ xs) zero h = absurd (omega arith)
 alone (x ∷ xs) (suc i) h = alone xs i (omega arith)
 
-pub canonical_parts : (n : List ℕ) (xs : List Edge) (i : ℕ) (x : Edge) → i < length xs → x ≡ get_or xs i x → IsCanonical (grafted n (map labelled (drop i xs))) →
+pub canonical_parts : (n : List ℕ) (xs : List Edge) (i : ℕ) (x : Edge) → i < length xs →
+    x ≡ get_or xs i x → IsCanonical (grafted n (map labelled (drop i xs))) →
     IsCanonical (plain (out-Edge x).child) × IsCanonical (grafted n (map labelled (drop (i + 1) xs))) × IsAtMostNext (map labelled (drop i xs))
 canonical_parts n xs i x h at c =
     let first : drop i xs ≡ x ∷ drop (i + 1) xs = grind (arith, common_steps) in

@@ -16,12 +16,15 @@ use Rattle.plain_trees.proofs.CanonLaws.{canon_same}
 abbrev passed : Labelled → Labelled → Bool
 passed e f = is_gt (edge_order_of e f)
 
-with_edge-insert-at : (n : List ℕ) (e f : Labelled) (es : List Labelled) (a : Bool) → passed e f ≡ a → with_edge (planted_of e) (grafted n es) ≡ grafted n (insert es (prefix_len (passed e) es) e) →
+with_edge-insert-at : (n : List ℕ) (e f : Labelled) (es : List Labelled) (a : Bool) →
+    passed e f ≡ a →
+    with_edge (planted_of e) (grafted n es) ≡ grafted n (insert es (prefix_len (passed e) es) e) →
     with_edge (planted_of e) (grafted n (f ∷ es)) ≡ grafted n (insert (f ∷ es) (prefix_len (passed e) (f ∷ es)) e)
 with_edge-insert-at n e f es true h ih = let one : 1 + prefix_len (passed e) es ≡ suc (prefix_len (passed e) es) = omega arith in rw h (rw one (ap (graft f.kind.0 f.p.entries f.child) ih))
 with_edge-insert-at n e f es false h ih = rw h refl
 
-pub with_edge-insert : (n : List ℕ) (e : Labelled) (es : List Labelled) → with_edge (planted_of e) (grafted n es) ≡ grafted n (insert es (prefix_len (λ f. is_gt (edge_order_of e f)) es) e)
+pub with_edge-insert : (n : List ℕ) (e : Labelled) (es : List Labelled) →
+    with_edge (planted_of e) (grafted n es) ≡ grafted n (insert es (prefix_len (λ f. is_gt (edge_order_of e f)) es) e)
 with_edge-insert n e [] = refl
 with_edge-insert n e (f ∷ es) = with_edge-insert-at n e f es (passed e f) refl (with_edge-insert n e es)
 
@@ -60,7 +63,8 @@ count-drop n m zero (e ∷ es) = omega (arith, count-drop n m zero es)
 count-drop n m (suc i) (e ∷ es) = omega (arith, count-drop n m i es)
 
 -- the edges from the one before i on
-pub canon_step : (n : List ℕ) (items : List Edge) (i j : ℕ) (x : Edge) (edges more : List Edge) (e : Edge) → j + 1 ≡ i → i ≤ length items → x ≡ get_or items j x →
+pub canon_step : (n : List ℕ) (items : List Edge) (i j : ℕ) (x : Edge) (edges more : List Edge) (e : Edge) →
+    j + 1 ≡ i → i ≤ length items → x ≡ get_or items j x →
     grafted n (map labelled edges) ≡ canon (grafted n (map labelled (drop i items))) →
     grafted n (map labelled more) ≡ with_edge (planted_of (labelled e)) (grafted n (map labelled edges)) →
     planted_of (labelled e) ≡ canon_above (planted_of (labelled x)) →
@@ -87,7 +91,8 @@ pub count-done : (t : Tree) (items : List Edge) (i : ℕ) (edges : List Edge) �
 count-done t items i edges h inv =
     rw (inv, canon_count (grafted [] (map labelled (drop i items))), plain_out t, ← h) (count-drop [] (out-Tree t).n.entries i items)
 
-pub count-above : (e x : Edge) → planted_of (labelled e) ≡ canon_above (planted_of (labelled x)) → edge_count_of (labelled e).child ≡ edge_count_of (labelled x).child
+pub count-above : (e x : Edge) → planted_of (labelled e) ≡ canon_above (planted_of (labelled x)) →
+    edge_count_of (labelled e).child ≡ edge_count_of (labelled x).child
 count-above e x h = ap (λ (y : Planted). edge_count_of y.child) h ∙ canon_count (labelled x).child
 
 pub whole : (t : Tree) (items : List Edge) (i : ℕ) (edges : List Edge) → items ≡ (out-Tree t).edges → i ≡ 0 →

@@ -35,7 +35,8 @@ module _ (ty : Types) (types : AreTypes ty) where
   abbrev pub around : Written → Planted
   around w = record { kind = 0; p = zeros; child = plain_of ty w }
 
-  pub built : (s : Building) (text : List ℕ) (w : Written) → s ≡ run ty start text → IsGrammatical ty w → AreKnown ty w → text ≡ written_text w → s.inner.edges ≡ around w ∷ []
+  pub built : (s : Building) (text : List ℕ) (w : Written) → s ≡ run ty start text →
+      IsGrammatical ty w → AreKnown ty w → text ≡ written_text w → s.inner.edges ≡ around w ∷ []
   built s text w h g k e = ap (λ (r : Building). r.inner.edges) (h ∙ ap (run ty start) e ∙ run_written ty dims five w g k)
 
   some_same : (a b : Plain) → Some a ≡ Some b → a ≡ b
@@ -61,7 +62,8 @@ module _ (ty : Types) (types : AreTypes ty) where
   child_of (e ∷ es) = e.child
 
   -- a text writes one tree
-  pub same_text : (w v : Written) → IsGrammatical ty w → AreKnown ty w → IsGrammatical ty v → AreKnown ty v → written_text w ≡ written_text v → plain_of ty w ≡ plain_of ty v
+  pub same_text : (w v : Written) → IsGrammatical ty w → AreKnown ty w → IsGrammatical ty v →
+      AreKnown ty v → written_text w ≡ written_text v → plain_of ty w ≡ plain_of ty v
   unfolding child_of
   same_text w v g k h l e =
       ap (λ (s : Building). child_of s.inner.edges) (sym (run_written ty dims five w g k) ∙ ap (run ty start) e ∙ run_written ty dims five v h l)

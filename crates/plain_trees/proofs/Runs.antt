@@ -93,7 +93,8 @@ module _ (ty : Types) (some_dims : 0 < ty.dims) (five_dims : ty.dims ≤ 5) wher
   abbrev after : OpenTree → List OpenTree → List ℕ → List Planted → Building
   after o os n es = record { outer = os; inner = with_subtree o (over es (bare n)) }
 
-  run_starred : (t : Written) → IsGrammatical ty t → AreKnown ty t → (o : OpenTree) (os : List OpenTree) (n : List ℕ) (es : List Planted) (l : Option (ℕ × List ℕ)) (u : List ℕ) →
+  run_starred : (t : Written) → IsGrammatical ty t → AreKnown ty t →
+      (o : OpenTree) (os : List OpenTree) (n : List ℕ) (es : List Planted) (l : Option (ℕ × List ℕ)) (u : List ℕ) →
       run ty (at (o ∷ os) n es l) (starred_onto t (93 ∷ u)) ≡ run ty (after o os n ((es ++ ended l empty_tree) ++ edges_listed t)) u
   run_starred (root x) h k o os n es l u = ap (λ (fs : List Planted). run ty (after o os n fs) u) (sym (append-nil (es ++ ended l empty_tree)))
   run_starred (leaf m p t) h k o os n es l u =

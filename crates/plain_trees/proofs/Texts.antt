@@ -12,7 +12,8 @@ abbrev pub remaining : Bool → List (List ℕ) → List ℕ
 remaining true fs = joined fs
 remaining false fs = starred fs
 
-root_first-at : (ty : Types) (n : List ℕ) (fs : List (List ℕ)) (a : Bool) → is_zero n ≡ a → joined (root_factors ty n) ++ remaining (is_zero n) fs ≡ joined (root_factors ty n ++ fs)
+root_first-at : (ty : Types) (n : List ℕ) (fs : List (List ℕ)) (a : Bool) → is_zero n ≡ a →
+    joined (root_factors ty n) ++ remaining (is_zero n) fs ≡ joined (root_factors ty n ++ fs)
 root_first-at ty n fs true h = rw h refl
 root_first-at ty n fs false h = rw h (ap (λ (m : List ℕ). (88 ∷ m) ++ starred fs) (append-nil (multi_text ty.dims n)))
 
@@ -28,7 +29,8 @@ front o j r s w e =
     append_assoc (o ++ 91 ∷ []) j (r ++ s) ∙ append_assoc o (91 ∷ []) (j ++ (r ++ s))
     ∙ ap (λ (x : List ℕ). o ++ (91 ∷ x)) (sym (append_assoc j r s) ∙ ap (λ (x : List ℕ). x ++ s) e)
 
-pub text_begins : (ty : Types) (t : Plain) (n o0 o1 o2 : List ℕ) (first : Bool) → root_of t ≡ n → o1 ≡ o0 ++ 91 ∷ [] → o2 ≡ o1 ++ joined (root_factors ty n) → first ≡ is_zero n →
+pub text_begins : (ty : Types) (t : Plain) (n o0 o1 o2 : List ℕ) (first : Bool) → root_of t ≡ n →
+    o1 ≡ o0 ++ 91 ∷ [] → o2 ≡ o1 ++ joined (root_factors ty n) → first ≡ is_zero n →
     o2 ++ (remaining first (edge_factors ty t) ++ 93 ∷ []) ≡ o0 ++ tree_text ty t
 text_begins ty t n o0 o1 o2 first r h1 h2 h3 =
     rw (r, h2, h1, h3) (front o0 (joined (root_factors ty n)) (remaining (is_zero n) (edge_factors ty t)) (93 ∷ []) (joined (root_factors ty n ++ edge_factors ty t)) (root_first ty n (edge_factors ty t)))

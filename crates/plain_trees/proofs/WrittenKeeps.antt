@@ -39,7 +39,8 @@ zeros_back zero (x ∷ m) l h = absurd (omega (arith, l))
 zeros_back (suc k) [] l h = absurd (omega (arith, l))
 zeros_back (suc k) (x ∷ m) l h = rw (h.0, zeros_back k m (omega (arith, l)) h.1) refl
 
-values_back : (k d : ℕ) (m : List ℕ) → length m ≡ k → AllByRecursion (λ x. x ≤ 4096) m → AllByRecursion (λ x. x ≡ 0) (drop d m) → values k (map decimal (take d m)) ≡ m
+values_back : (k d : ℕ) (m : List ℕ) → length m ≡ k → AllByRecursion (λ x. x ≤ 4096) m →
+    AllByRecursion (λ x. x ≡ 0) (drop d m) → values k (map decimal (take d m)) ≡ m
 values_back k zero m l h r = zeros_back k m l r
 values_back zero (suc d) [] l h r = refl
 values_back zero (suc d) (x ∷ m) l h r = absurd (omega (arith, l))
@@ -71,7 +72,8 @@ noise_kind Noise h = refl
 noise_kind Kernel h = absurd cc
 
 module _ (ty : Types) (types : AreTypes ty) where
-  entry_in : (k : ℕ) → ((x : TypeEntry) × (k < length ty.list) × (slice_get ty.list k ≡ Some x) × (get_or ty.list k x ≡ x)) ⊎ ((length ty.list ≤ k) × (slice_get ty.list k ≡ None)) →
+  entry_in : (k : ℕ) →
+      ((x : TypeEntry) × (k < length ty.list) × (slice_get ty.list k ≡ Some x) × (get_or ty.list k x ≡ x)) ⊎ ((length ty.list ≤ k) × (slice_get ty.list k ≡ None)) →
       k < length ty.list → (e : TypeEntry) × (slice_get ty.list k ≡ Some e)
   entry_in k (inl c) h = (c.0, c.2)
   entry_in k (inr c) h = absurd (omega (arith, c.0))

@@ -41,7 +41,8 @@ module _ (ty : Types) (some_dims : 0 < ty.dims) where
   multi_onto m s five =
       ap (λ (x : List ℕ). 40 ∷ x) (append_assoc (listed_text (take ty.dims m)) (41 ∷ []) s ∙ listed_onto (take ty.dims m) s (some_taken ty.dims m some_dims five))
 
-  edge_type_at : (k : ℕ) (p s : List ℕ) (b : Bool) → is_zero p ≡ b → length p ≡ 5 → edge_type_text ty k p ++ s ≡ name_of ty k ++ quoted_onto (written_multi ty p) s
+  edge_type_at : (k : ℕ) (p s : List ℕ) (b : Bool) → is_zero p ≡ b → length p ≡ 5 →
+      edge_type_text ty k p ++ s ≡ name_of ty k ++ quoted_onto (written_multi ty p) s
   edge_type_at k p s true e five = rw e (append_assoc (name_of ty k) [] s)
   edge_type_at k p s false e five =
       rw e (append_assoc (name_of ty k) (39 ∷ multi_text ty.dims p) s ∙ ap (λ (x : List ℕ). name_of ty k ++ 39 ∷ x) (multi_onto p s five))
@@ -71,7 +72,9 @@ module _ (ty : Types) (some_dims : 0 < ty.dims) where
       ∙ ap (λ (x : List ℕ). 88 ∷ (multi_text ty.dims n ++ x)) (h (93 ∷ s))
       ∙ ap (λ (x : List ℕ). 88 ∷ x) (multi_onto n (starred_onto (written ty t) (93 ∷ s)) five)))
 
-  root_at : (k : ℕ) (p : List ℕ) (c t : Plain) (b : Bool) → is_kernel ty k ≡ b → written_root (written ty t) ≡ written_multi ty (root_of t) → written_root (written ty (graft k p c t)) ≡ written_multi ty (root_of t)
+  root_at : (k : ℕ) (p : List ℕ) (c t : Plain) (b : Bool) → is_kernel ty k ≡ b →
+      written_root (written ty t) ≡ written_multi ty (root_of t) →
+      written_root (written ty (graft k p c t)) ≡ written_multi ty (root_of t)
   root_at k p c t true e h = rw e h
   root_at k p c t false e h = rw e h
 

@@ -1,8 +1,33 @@
 -- Building a tree from a text of the grammar, one mark after the other.
---   plain_of ty w == the tree that w writes: types by their names, decorations by the values of their entries; an edge without a subtree ends in the empty tree
---   OpenTree == a tree whose text is not read to its end: the decoration of its root, the edges so far, and the label of an edge whose subtree is not read
+-- Working notions of the code and of proofs, which no contract of a public call names:
+--   type_of ty n == the number of the first type with the name n; 0 where there is none
+--   plain_of ty w == the tree that w writes: types by their names, decorations by the values of
+--       their entries; an edge without a subtree ends in the empty tree
+--   zeros == the multiindex 0
+--   OpenTree == a tree whose text is not read to its end: the decoration of its root, the edges so
+--       far, and the label of an edge whose subtree is not read
 --   Building == the trees around the open one, the next one first, and the open one
---   run ty s text == the state after the marks of text
+--   over es t == t with the edges es in front of its root's edges
+--   tree_of_open o == the open tree with the edges that it has so far
+--   ended label c == the edge with this label and the subtree c; none where no edge waits for its
+--       subtree
+--   with_subtree o c == o, in which the edge that waits has its subtree c
+--   label_at ty text == the label of an edge whose name stands at the front of text, as yet without
+--       a multiindex
+--   opened ty text s == the state after `[`: one more open tree
+--   next_factor ty text s == the state after `*`: an edge that waits ends in the empty tree
+--   decorated_by label m o == o with the multiindex m at the edge that waits, or at the root where
+--       none does
+--   decorated m s == the state after a multiindex
+--   closed_by outer s == the state after `]`: the open tree is the subtree of the edge that waits
+--       for it
+--   step ty mark text s == the state after one mark, in front of text
+--   run ty s text == the state after all marks of text
+--   start == the state before the first mark: around the whole tree there is an edge that ends in
+--       it
+--   label_of, open_of, stacked, building_of == what the values stand for that the program keeps: a
+--       label, an open tree, a stack of them, a state
+--   planted_edges es == edges as the program keeps them, as edges with what stands above them
 use Rattle.std.specs.Prelude.{ℕ, ◌==◌, List, [], ◌∷◌, ◌++◌, if◌then◌else◌, map, unwrap_or, Option, Some, None}
 use Rattle.std.specs.Option.{option_map}
 use Rattle.degree_numbers.specs.Name.{is_name}
@@ -56,13 +81,20 @@ with_subtree o c = record { n = o.n; edges = o.edges ++ ended o.label c; label =
 
 -- the label of an edge whose name stands at the front, as yet without a multiindex
 abbrev pub label_at : Types → List ℕ → Option (ℕ × List ℕ)
-label_at ty text = if is_name (word text) then option_map (λ k. (k, zeros)) (number_named ty (word text)) else None
+label_at ty text =
+    if is_name (word text) then option_map (λ k. (k, zeros)) (number_named ty (word text)) else None
 
 abbrev pub opened : Types → List ℕ → Building → Building
-opened ty text s = record { outer = s.inner ∷ s.outer; inner = record { n = zeros; edges = []; label = label_at ty text } }
+opened ty text s = record {
+  outer = s.inner ∷ s.outer;
+  inner = record { n = zeros; edges = []; label = label_at ty text };
+}
 
 abbrev pub next_factor : Types → List ℕ → Building → Building
-next_factor ty text s = record { outer = s.outer; inner = record (with_subtree s.inner empty_tree) { label = label_at ty text } }
+next_factor ty text s = record {
+  outer = s.outer;
+  inner = record (with_subtree s.inner empty_tree) { label = label_at ty text };
+}
 
 -- a multiindex is that of an edge, or of the root where no edge waits for one
 abbrev pub decorated_by : Option (ℕ × List ℕ) → List ℕ → OpenTree → OpenTree
@@ -75,7 +107,8 @@ decorated m s = record { outer = s.outer; inner = decorated_by s.inner.label m s
 -- the open tree ends
 abbrev pub closed_by : List OpenTree → Building → Building
 closed_by [] s = s
-closed_by (o ∷ os) s = record { outer = os; inner = with_subtree o (tree_of_open (with_subtree s.inner empty_tree)) }
+closed_by (o ∷ os) s =
+    record { outer = os; inner = with_subtree o (tree_of_open (with_subtree s.inner empty_tree)) }
 
 abbrev pub step : Types → ℕ → List ℕ → Building → Building
 step ty mark text s =
@@ -101,7 +134,8 @@ abbrev pub planted_edges : List Edge → List Planted
 planted_edges es = map (λ e. planted_of (labelled e)) es
 
 abbrev pub open_of : Open → OpenTree
-open_of o = record { n = o.n.entries; edges = planted_edges o.edges; label = option_map label_of o.label }
+open_of o =
+    record { n = o.n.entries; edges = planted_edges o.edges; label = option_map label_of o.label }
 
 abbrev pub stacked : List Open → List OpenTree → List OpenTree
 stacked [] s = s

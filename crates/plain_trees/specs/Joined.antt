@@ -1,6 +1,7 @@
 -- Trees made of trees.
 --   raised m t == t with m added to the decoration of its root
---   joined s t == s and t joined at their roots: the edges of both, the decorations added; the product of s and t
+--   joined s t == s and t joined at their roots: the edges of both, the decorations added; the
+--       product of s and t
 --   planted_by k p t == one edge of type k with derivative decoration p, and the tree t above it
 use Rattle.std.specs.Prelude.{ℕ, List}
 use Rattle.degree_numbers.specs.Multi.{plus_of}

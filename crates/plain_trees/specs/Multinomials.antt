@@ -1,9 +1,11 @@
 -- Sums, binomials and multinomials of multiindices.
 --   plus_all ms == the sum of a list of multiindices, entry by entry
 --   zeros m == the multiindex with as many entries, all 0
+--   down_from n == the numbers from n down to 0
 --   below m == the list of all multiindices that are at most m, entry by entry
 --   choose n k == the binomial of multiindices: the product over the entries of the binomials
---   multinomial_of ms == the multinomial of multiindices: the product over the entries of the multinomials
+--   multinomial_of ms == the multinomial of multiindices: the product over the entries of the
+--       multinomials
 use Rattle.std.specs.Prelude.{ℕ, zero, suc, ◌*◌, List, [], ◌∷◌, map, flat_map}
 use Rattle.exact_sums.specs.Binomials.{binomial}
 use Rattle.degree_numbers.specs.Multi.{plus_of}

@@ -49,7 +49,8 @@ fn empty_tree(alloc: Global) -> Tree
 }
 
 fn edge_of(label: Label, child: Tree) -> Edge
-    ensures { planted_of (labelled result) ≡ record { kind = label.kind.0; p = label.p.entries; child = plain child } }
+    ensures { planted_of (labelled result)
+        ≡ record { kind = label.kind.0; p = label.p.entries; child = plain child } }
 {
     Edge {
         kind: label.kind,
@@ -215,7 +216,8 @@ fn run(alloc: Global, types: &Types, text: &[u8]) -> Result<Builder, AllocError>
 }
 
 fn last_subtree(mut edges: Items<Edge>) -> Option<Tree>
-    ensures { (e : Planted) → planted_edges edges ≡ e ∷ [] → option_map plain result ≡ Some e.child }
+    ensures { (e : Planted) → planted_edges edges ≡ e ∷ [] →
+        option_map plain result ≡ Some e.child }
 {
     let Edge { child, .. } = edges.pop()?;
     Some(child)
@@ -226,7 +228,8 @@ pub fn build(alloc: Global, types: &Types, text: &[u8]) -> Result<Tree, TreeErro
     requires types { AreTypes types.now }
     requires grammar { IsTreeText types.now text.now }
     requires known { first_unknown types.now text.now ≡ None }
-    ensures tree { IfOk result (λ t. (w : Written) → IsGrammatical types.now w → AreKnown types.now w → text.now ≡ written_text w → plain t ≡ plain_of types.now w) }
+    ensures tree { IfOk result (λ t. (w : Written) → IsGrammatical types.now w →
+        AreKnown types.now w → text.now ≡ written_text w → plain t ≡ plain_of types.now w) }
     ensures memory { IsOkUnless result TreeError.Memory }
 {
     let b = run(alloc, types, text)?;

@@ -18,7 +18,8 @@ use std::alloc::{AllocError, Global};
 fn place(edges: &[Edge], e: &Edge) -> usize
     requires small { edge_count_of (grafted [] (map labelled edges.now)) ≤ MOST_EDGES }
     requires small_edge { edge_count_of (labelled e.now).child ≤ MOST_EDGES }
-    ensures { result ≡ prefix_len (λ f. is_gt (edge_order_of (labelled e.now) f)) (map labelled edges.now) }
+    ensures { result ≡ prefix_len (λ f. is_gt (edge_order_of (labelled e.now) f))
+        (map labelled edges.now) }
 {
     for i in 0..edges.len() {
         if !edge_order(e, &edges[i]).is_gt() {
@@ -32,7 +33,9 @@ fn place(edges: &[Edge], e: &Edge) -> usize
 pub fn insert_edge(edges: &mut Vec<Edge>, e: Edge) -> Result<(), AllocError>
     requires small { edge_count_of (grafted [] (map labelled edges.old.items)) ≤ MOST_EDGES }
     requires small_edge { edge_count_of (labelled e).child ≤ MOST_EDGES }
-    ensures { OnOk result ((n : List ℕ) → grafted n (map labelled edges.new.items) ≡ with_edge (planted_of (labelled e)) (grafted n (map labelled edges.old.items))) }
+    ensures { OnOk result ((n : List ℕ) →
+        grafted n (map labelled edges.new.items) ≡ with_edge (planted_of (labelled e))
+        (grafted n (map labelled edges.old.items))) }
 {
     let at = place(edges.as_slice(), &e);
     edges.insert(at, e)?;
@@ -53,7 +56,8 @@ pub fn tree_of(n: Multi, edges: Vec<Edge>) -> Tree
 #[cycle(canonical)]
 fn canonical_edge(alloc: Global, e: &Edge) -> Result<Edge, TreeError>
     requires { edge_count_of (labelled e.now).child ≤ MOST_EDGES }
-    ensures edge { IfOk result (λ f. planted_of (labelled f) ≡ canon_above (planted_of (labelled e.now))) }
+    ensures edge { IfOk result (λ f. planted_of (labelled f)
+        ≡ canon_above (planted_of (labelled e.now))) }
     ensures memory { IsOkUnless result TreeError.Memory }
 {
     let child = canonical(alloc, &e.child)?;
@@ -64,7 +68,8 @@ fn canonical_edge(alloc: Global, e: &Edge) -> Result<Edge, TreeError>
     })
 }
 
-/// The canonical form of a tree: the same tree with the edges of each node in edge order. Fails only for want of memory.
+/// The canonical form of a tree: the same tree with the edges of each node in edge order. Fails
+/// only for want of memory.
 #[cycle(canonical)]
 pub fn canonical(alloc: Global, t: &Tree) -> Result<Tree, TreeError>
     requires { edge_count_of (plain t.now) ≤ MOST_EDGES }
@@ -111,14 +116,17 @@ pub fn is_canonical(t: &Tree) -> bool
     true
 }
 
-/// The laws of canonical form: it is canonical; it is the same tree; exactly the canonical trees keep their form; trees are the same exactly where their
-/// forms are equal; of two canonical trees that is so exactly where tree order says so. It has as many edges and the same sum of decorations.
+/// The laws of canonical form: it is canonical; it is the same tree; exactly the canonical trees
+/// keep their form; trees are the same exactly where their forms are equal; of two canonical trees
+/// that is so exactly where tree order says so. It has as many edges and the same sum of
+/// decorations.
 pub fn canon_laws()
     ensures canonical { (t : Plain) → IsCanonical (canon t) }
     ensures same { (t : Plain) → IsSame t (canon t) }
     ensures fixed { (t : Plain) → IsCanonical t ↔ (canon t ≡ t) }
     ensures equal { (s t : Plain) → IsSame s t ↔ (canon s ≡ canon t) }
-    ensures order { (s t : Plain) → IsCanonical s → IsCanonical t → (IsSame s t ↔ (tree_order s t ≡ Equal)) }
+    ensures order { (s t : Plain) → IsCanonical s → IsCanonical t →
+        (IsSame s t ↔ (tree_order s t ≡ Equal)) }
     ensures edges { (t : Plain) → edge_count_of (canon t) ≡ edge_count_of t }
     ensures decorations { (t : Plain) → decoration_sum_of (canon t) ≡ decoration_sum_of t }
 {}

@@ -43,7 +43,8 @@ fn derivative_degree(types: &Types, p: &Multi) -> Degree
     }
 }
 
-/// The degree of an edge without the tree above it: that of its type less the scaled size of its derivative decoration.
+/// The degree of an edge without the tree above it: that of its type less the scaled size of its
+/// derivative decoration.
 #[tactic(auto, using(crate::proofs::DegreeBounds::edge_a_fits, crate::proofs::DegreeBounds::edge_b_fits))]
 pub fn edge_degree(types: &Types, kind: TypeId, p: &Multi) -> Degree
     requires types { AreTypes types.now }
@@ -66,7 +67,8 @@ pub fn node_degree(types: &Types, n: &Multi) -> Degree
     }
 }
 
-/// The degree of a tree (Bruned, Hairer, Zambotti): the sum of |type| - |p|_s over its edges and of |n|_s over its nodes.
+/// The degree of a tree (Bruned, Hairer, Zambotti): the sum of |type| - |p|_s over its edges and of
+/// |n|_s over its nodes.
 pub fn degree(types: &Types, t: &Tree) -> Degree
     requires types { AreTypes types.now }
     requires tree { HasTypes types.now (plain t.now) }
@@ -101,11 +103,13 @@ pub fn is_planted(types: &Types, t: &Tree) -> bool
     }
 }
 
-/// What does not depend on the order in which edges are drawn: the degree, whether a tree is planted, and whether it is a tree over these types. And the test of
-/// planted trees answers yes exactly where there is one edge at the root, of kernel type, and the root's decoration is 0.
+/// What does not depend on the order in which edges are drawn: the degree, whether a tree is
+/// planted, and whether it is a tree over these types. And the test of planted trees answers yes
+/// exactly where there is one edge at the root, of kernel type, and the root's decoration is 0.
 pub fn degree_laws()
     ensures degree { (ty : Types) (s t : Plain) → IsSame s t → degree_of ty s ≡ degree_of ty t }
     ensures planted { (ty : Types) (s t : Plain) → IsSame s t → planted ty s ≡ planted ty t }
     ensures types { (ty : Types) (s t : Plain) → IsSame s t → HasTypes ty s → HasTypes ty t }
-    ensures test { (ty : Types) (t : Plain) → HasTypes ty t → ((planted ty t ≡ true) ↔ IsPlanted ty t) }
+    ensures test { (ty : Types) (t : Plain) → HasTypes ty t →
+        ((planted ty t ≡ true) ↔ IsPlanted ty t) }
 {}

@@ -5,7 +5,8 @@ ghost use Rattle.plain_trees.specs.declared.error.TreeError.TheVariants.{Memory}
 use std::alloc::AllocError;
 use thiserror::Error;
 
-/// Why a text is not read as a tree, or that memory is wanted. Places count bytes from 0; the end of the text is its length.
+/// Why a text is not read as a tree, or that memory is wanted. Places count bytes from 0; the end
+/// of the text is its length.
 #[derive(Clone, Copy, Debug, PartialEq, Eq, Error)]
 pub enum TreeError {
     #[error("no tree text goes on like this at byte {place}")]

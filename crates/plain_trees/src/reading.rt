@@ -52,7 +52,8 @@ fn has_text(alloc: Global, types: &Types, t: &Tree, text: &[u8]) -> Result<bool,
     requires types { AreTypes types.now }
     requires tree { HasTypes types.now (plain t.now) }
     requires small { IsSmall (plain t.now) }
-    ensures same { IfOk result (λ same. IsTrue same ↔ (tree_text types.now (plain t.now) ≡ text.now)) }
+    ensures same { IfOk result (λ same. IsTrue same ↔ (tree_text types.now (plain t.now)
+        ≡ text.now)) }
     ensures memory { IsOkUnless result TreeError.Memory }
 {
     let printed = print_tree(alloc, types, t)?;
@@ -76,32 +77,42 @@ fn read_text(alloc: Global, types: &Types, text: &[u8], most: u32) -> Result<Tre
     Ok(t)
 }
 
-/// Reads the text of a tree, as `print_tree` writes it. `most` bounds the sum of its decorations. The refusals, in their order:
+/// Reads the text of a tree, as `print_tree` writes it. `most` bounds the sum of its decorations.
+/// The refusals, in their order:
 ///
-/// - `TreeText`: the text is not in the grammar. The place is that of the first byte at which no tree text goes on, or the text's length where it ends too
-///   early. Leading zeros, written multiindices that are 0 and edges in any order are in the grammar; a noise has no subtree and a kernel has one; a name of no
-///   type may have one.
-/// - `UnknownType`: a name is that of no type. The place is that of the first byte of the first such name.
-/// - `TooManyEdges`: there are more than 24 edges.
-/// - `TooManyDecorations`: the numbers sum up to more than `most`. One past 2^31-1 counts as 2^31-1, and the total stops at 2^32-1.
+/// - `TreeText`: the text is not in the grammar. The place is that of the first byte at which no
+///   tree text goes on, or the text's length where it ends too early. Leading zeros, written
+///   multiindices that are 0 and edges in any order are in the grammar; a noise has no subtree and
+///   a kernel has one; a name of no type may have one.
+/// - `UnknownType`: a name is that of no type. The place is that of the first byte of the first
+///   such name.
+/// - `TooManyEdges`: there are more than 24 edges (`MOST_EDGES`).
+/// - `TooManyDecorations`: the numbers sum up to more than `most`. One past 2^31-1 counts as
+///   2^31-1, and the total stops at 2^32-1.
 /// - `NotCanonical`: the text is not the one that is printed for a canonical tree.
 /// - `Memory`: want of memory.
 ///
-/// No recursion runs before the number of edges is known. `[xi*xi]` is read as a tree with two edges, `[u[xi]` is refused with `TreeText` at 6.
+/// No recursion runs before the number of edges is known. `[xi*xi]` is read as a tree with two
+/// edges, `[u[xi]` is refused with `TreeText` at 6.
 pub fn read_tree(alloc: Global, types: &Types, text: &[u8], most: u32) -> Result<Tree, TreeError>
     requires types { AreTypes types.now }
     requires most { most ≤ MOST_DECORATIONS }
     ensures tree { IfOk result (λ t. IsTreeOf types.now most text.now (plain t)) }
     ensures refusal { IfErr result (λ e. IsRefused types.now most text.now e) }
-    ensures back { (t : Plain) → IsTreeOf types.now most text.now t → IsOkUnless result TreeError.Memory × IfOk result (λ u. plain u ≡ t) }
+    ensures back { (t : Plain) → IsTreeOf types.now most text.now t →
+        IsOkUnless result TreeError.Memory × IfOk result (λ u. plain u ≡ t) }
 {
     read_text(alloc, types, text, most)
 }
 
-/// What `read_tree` answers is determined by its clauses, but for want of memory: a text is that of one tree at most, a text that a tree has is not refused, and
-/// no text is refused in two ways.
+/// What `read_tree` answers is determined by its clauses, but for want of memory: a text is that of
+/// one tree at most, a text that a tree has is not refused, and no text is refused in two ways.
 pub fn read_tree_laws()
-    ensures tree { (ty : Types) (most : ℕ) (text : List ℕ) (t u : Plain) → AreTypes ty → most ≤ MOST_DECORATIONS → IsTreeOf ty most text t → IsTreeOf ty most text u → t ≡ u }
-    ensures tree_or_refusal { (ty : Types) (most : ℕ) (text : List ℕ) (t : Plain) (e : TreeError) → AreTypes ty → most ≤ MOST_DECORATIONS → IsTreeOf ty most text t → IsRefused ty most text e → e ≡ Memory }
-    ensures refusal { (ty : Types) (most : ℕ) (text : List ℕ) (e f : TreeError) → IsRefused ty most text e → IsRefused ty most text f → e ≢ Memory → f ≢ Memory → e ≡ f }
+    ensures tree { (ty : Types) (most : ℕ) (text : List ℕ) (t u : Plain) → AreTypes ty →
+        most ≤ MOST_DECORATIONS → IsTreeOf ty most text t → IsTreeOf ty most text u → t ≡ u }
+    ensures tree_or_refusal { (ty : Types) (most : ℕ) (text : List ℕ) (t : Plain) (e : TreeError) →
+        AreTypes ty → most ≤ MOST_DECORATIONS → IsTreeOf ty most text t → IsRefused ty most text e →
+        e ≡ Memory }
+    ensures refusal { (ty : Types) (most : ℕ) (text : List ℕ) (e f : TreeError) →
+        IsRefused ty most text e → IsRefused ty most text f → e ≢ Memory → f ≢ Memory → e ≡ f }
 {}

@@ -14,7 +14,8 @@ use std::alloc::{AllocError, Global};
 
 fn put_root(out: &mut Vec<u8>, types: &Types, n: &Multi) -> Result<(), AllocError>
     requires { AreTypes types.now }
-    ensures { OnOk result (out.new.items ≡ out.old.items ++ joined (root_factors types.now n.now.entries)) }
+    ensures { OnOk result (out.new.items ≡ out.old.items
+        ++ joined (root_factors types.now n.now.entries)) }
 {
     if n.is_zero() {
         return Ok(());
@@ -35,10 +36,12 @@ fn put_separator(out: &mut Vec<u8>, is_first: bool) -> Result<(), AllocError>
 #[cycle(put_tree)]
 fn put_edge(out: &mut Vec<u8>, types: &Types, e: &Edge) -> Result<(), AllocError>
     requires types { AreTypes types.now }
-    requires edge { IsEdge types.now (labelled e.now).kind.0 (labelled e.now).p.entries (labelled e.now).child }
+    requires edge { IsEdge types.now (labelled e.now).kind.0 (labelled e.now).p.entries
+        (labelled e.now).child }
     requires child { HasTypes types.now (labelled e.now).child }
     requires small { IsSmall (labelled e.now).child }
-    ensures { OnOk result (out.new.items ≡ out.old.items ++ edge_factor types.now (labelled e.now)) }
+    ensures { OnOk result (out.new.items ≡ out.old.items
+        ++ edge_factor types.now (labelled e.now)) }
 {
     put_edge_type(out, types, e.kind, &e.p)?;
     if is_kernel_type(types, e.kind) {
@@ -67,9 +70,11 @@ fn put_tree(out: &mut Vec<u8>, types: &Types, t: &Tree) -> Result<(), AllocError
     Ok(())
 }
 
-/// The text of a tree: in square brackets the factors, joined by `*`; first `X` and the root's multiindex, where that is not 0, then the edges. An edge is the
-/// name of its type, then `'` and its multiindex where that is not 0, then for a kernel the text of the tree above it. `[X(0,1)*u'(0,1)[xi]]` is a tree with two
-/// edges. The tree is within the bounds, so that the recursion is at most 25 deep. Fails only for want of memory.
+/// The text of a tree: in square brackets the factors, joined by `*`; first `X` and the root's
+/// multiindex, where that is not 0, then the edges. An edge is the name of its type, then `'` and
+/// its multiindex where that is not 0, then for a kernel the text of the tree above it.
+/// `[X(0,1)*u'(0,1)[xi]]` is a tree with two edges. The tree is within the bounds, so that the
+/// recursion is at most 25 deep. Fails only for want of memory.
 pub fn print_tree(alloc: Global, types: &Types, t: &Tree) -> Result<Vec<u8>, TreeError>
     requires types { AreTypes types.now }
     requires tree { HasTypes types.now (plain t.now) }

@@ -42,7 +42,7 @@ use Rattle.pooled_cuttings.proofs.Members.{all_more, all_unmapped}
 use Rattle.pooled_cuttings.proofs.Fitting.{IsOpenOf, IsIdleOf, IsClosedOf, open_lines, idle_lines, closed_lines, open_fit, idle_fit, inside_of, outside_of, beside_of, more_shifts, shift_sum}
 
 -- lines and the terms that they mean
-all_meant : {K J : Type 0} (f : K → J) (Q : J → Type 0) (ls : List (K × ℕ)) → AllByRecursion (λ x. Q x.0) (rekeyed f ls) → AllByRecursion (λ l. Q (f l.0)) ls
+pub all_meant : {K J : Type 0} (f : K → J) (Q : J → Type 0) (ls : List (K × ℕ)) → AllByRecursion (λ x. Q x.0) (rekeyed f ls) → AllByRecursion (λ l. Q (f l.0)) ls
 all_meant f Q [] a = tt
 all_meant f Q (l ∷ ls) a = (a.0, all_meant f Q ls a.1)
 

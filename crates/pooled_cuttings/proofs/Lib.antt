@@ -3,6 +3,7 @@ pub mod EdgeSteps
 pub mod Finished
 pub mod Fitting
 pub mod Groves
+pub mod Lookups
 pub mod Loops
 pub mod MadeKeys
 pub mod Makings
@@ -10,6 +11,7 @@ pub mod Means
 pub mod Members
 pub mod Parts
 pub mod ProductRows
+pub mod Raised
 pub mod RightFitting
 pub mod RightKeys
 pub mod RightLoops

@@ -13,7 +13,7 @@ use Rattle.pooled_cuttings.specs.declared.keys.ExtractKey.{ExtractKey}
 use Rattle.pooled_cuttings.specs.declared.steps.EdgeStep.{EdgeStep}
 use Rattle.pooled_cuttings.specs.Groves.{GroveContent, IsGrove, IsGrownGrove}
 use Rattle.pooled_cuttings.specs.Lines.{opened_in, extracted_in, opened_terms_in, extracted_terms_in, IsOpenKey, IsExtractKey, IsOpenLine, IsExtractLine, AreOpenLines, AreExtractLines}
-use Rattle.pooled_cuttings.specs.Products.{kept_terms, seed, touched_products, inside_term, outside_term, beside_term, IsInsideFit, IsOutsideFit, IsBesideFit, AreInsideFit, AreOutsideFit, AreBesideFit}
+use Rattle.pooled_cuttings.specs.Products.{kept_terms, seed, touched_products, inside_term, beside_term, over, over_term, raised_term, IsInsideFit, IsOutsideFit, IsBesideFit, IsRaisedFit, IsOverFit, AreInsideFit, AreOutsideFit, AreBesideFit}
 use Rattle.pooled_cuttings.proofs.Means.{pair_of, opened_grown, extracted_grown, open_terms_grown, extract_terms_grown, open_line_grown, extract_line_grown, open_lines_grown, extract_lines_grown}
 use Rattle.pooled_cuttings.proofs.ProductRows.{saturated_terms-append, kept_terms-append}
 use Rattle.pooled_cuttings.proofs.Rows.{row_step, all_at}
@@ -30,13 +30,22 @@ abbrev pub inside_rows : GroveContent → EdgeStep → List (OpenKey × ℕ) →
 inside_rows g e ys xs =
     kept_terms g.pool.types e.most (products inside_factor (inside e.kind.0 e.p.entries) (opened_terms_in g xs) (opened_terms_in g ys))
 
-abbrev pub outside_one : GroveContent → EdgeStep → List ℕ → ExtractKey × ℕ → OpenKey × ℕ → List (Opened × ℕ)
-outside_one g e s x y = kept_terms g.pool.types e.most (outside_term e s (extracted_in g x.0, x.1) (opened_in g y.0, y.1) ∷ [])
+abbrev pub raised_one : GroveContent → EdgeStep → List ℕ → OpenKey × ℕ → List (Opened × ℕ)
+raised_one g e s y = kept_terms g.pool.types e.most (raised_term s (opened_in g y.0, y.1) ∷ [])
 
-abbrev pub outside_row : GroveContent → EdgeStep → List ℕ → ExtractKey × ℕ → List (OpenKey × ℕ) → List (Opened × ℕ)
-outside_row g e s x ys =
-    kept_terms g.pool.types e.most
-    (scaled x.1 (products_with (outside_factor s) (outside s e.kind.0 e.p.entries) (extracted_in g x.0) (opened_terms_in g ys)))
+abbrev pub raised_row : GroveContent → EdgeStep → List ℕ → List (OpenKey × ℕ) → List (Opened × ℕ)
+raised_row g e s ys = kept_terms g.pool.types e.most (map (raised_term s) (opened_terms_in g ys))
+
+abbrev pub over_one : GroveContent → ℕ → List ℕ → ExtractKey × ℕ → OpenKey × ℕ → List (Opened × ℕ)
+over_one g k p x y = saturated_terms (over_term k p (extracted_in g x.0, x.1) (opened_in g y.0, y.1) ∷ [])
+
+abbrev pub over_row : GroveContent → ℕ → List ℕ → ExtractKey × ℕ → List (OpenKey × ℕ) → List (Opened × ℕ)
+over_row g k p x ys =
+    saturated_terms (scaled x.1 (products_with (λ x y. 1) (over k p) (extracted_in g x.0) (opened_terms_in g ys)))
+
+abbrev pub over_rows : GroveContent → ℕ → List ℕ → List (OpenKey × ℕ) → List (ExtractKey × ℕ) → List (Opened × ℕ)
+over_rows g k p ys xs =
+    saturated_terms (products (λ x y. 1) (over k p) (extracted_terms_in g xs) (opened_terms_in g ys))
 
 abbrev pub outside_rows : GroveContent → EdgeStep → List ℕ → List (OpenKey × ℕ) → List (ExtractKey × ℕ) → List (Opened × ℕ)
 outside_rows g e s ys xs =
@@ -71,7 +80,7 @@ rekeyed-append f [] ys = refl
 rekeyed-append {K} {J} f (x ∷ xs) ys = ap (λ (ts : List (J × ℕ)). pair_of (f x.0) x.1 ∷ ts) (rekeyed-append f xs ys)
 
 -- what is made of a line in a grove that has grown
-module _ (g h : GroveContent) (is : IsGrove g) (a : IsGrownGrove g h) (e : EdgeStep) where
+module _ (g h : GroveContent) (is : IsGrove g) (a : IsGrownGrove g h) where
   two_open : {Z : Type 0} (f : Types → Opened → Opened → Z) (x y : OpenKey) → IsOpenKey g x → IsOpenKey g y →
       f h.pool.types (opened_in h x) (opened_in h y) ≡ f g.pool.types (opened_in g x) (opened_in g y)
   two_open f x y i j =
@@ -93,8 +102,31 @@ module _ (g h : GroveContent) (is : IsGrove g) (a : IsGrownGrove g h) (e : EdgeS
       ∙ ap (λ (z : Extracted). f g.pool.types z (extracted_in h y)) (extracted_grown g h x is a i)
       ∙ ap (f g.pool.types (extracted_in g x)) (extracted_grown g h y is a j)
 
+  module _ (k : ℕ) (p : List ℕ) where
+    pub over_one_grown : (x : ExtractKey × ℕ) (y : OpenKey × ℕ) → IsExtractLine g x → IsOpenLine g y → over_one h k p x y ≡ over_one g k p x y
+    over_one_grown x y i j = with_open (λ ty u v. saturated_terms (over_term k p (u, x.1) (v, y.1) ∷ [])) x.0 y.0 i.0 j.0
+
+    pub over_fit_grown : (x : ExtractKey × ℕ) (y : OpenKey × ℕ) → IsExtractLine g x → IsOpenLine g y → IsOverFit g.pool.types k p (extracted_in g x.0) (opened_in g y.0) →
+        IsOverFit h.pool.types k p (extracted_in h x.0) (opened_in h y.0)
+    over_fit_grown x y i j fit = subst (λ (ty : Types). IsOverFit ty k p (extracted_in h x.0) (opened_in h y.0)) (sym a.pool.types)
+        (subst (λ (z : Extracted). IsOverFit g.pool.types k p z (opened_in h y.0)) (sym (extracted_grown g h x.0 is a i.0))
+        (subst (λ (z : Opened). IsOverFit g.pool.types k p (extracted_in g x.0) z) (sym (opened_grown g h y.0 is a j.0)) fit))
+
+    pub over_row_grown : (x : ExtractKey × ℕ) (ys : List (OpenKey × ℕ)) → IsExtractLine g x → AreOpenLines g ys → over_row h k p x ys ≡ over_row g k p x ys
+    over_row_grown x ys i j =
+        ap (λ (z : Extracted). saturated_terms (scaled x.1 (products_with (λ x y. 1) (over k p) z (opened_terms_in h ys)))) (extracted_grown g h x.0 is a i.0)
+        ∙ ap (λ (ts : List (Opened × ℕ)). saturated_terms (scaled x.1 (products_with (λ x y. 1) (over k p) (extracted_in g x.0) ts)))
+        (open_terms_grown g h ys is a j)
+
+    pub over_fits_grown : (x : ExtractKey × ℕ) (ys : List (OpenKey × ℕ)) → IsExtractLine g x → AreOpenLines g ys →
+        AllByRecursion (λ y. IsOverFit g.pool.types k p (extracted_in g x.0) (opened_in g y.0)) ys →
+        AllByRecursion (λ y. IsOverFit h.pool.types k p (extracted_in h x.0) (opened_in h y.0)) ys
+    over_fits_grown x [] i j fits = tt
+    over_fits_grown x (y ∷ ys) i j fits = (over_fit_grown x y i j.0 fits.0, over_fits_grown x ys i j.1 fits.1)
+
+module _ (g h : GroveContent) (is : IsGrove g) (a : IsGrownGrove g h) (e : EdgeStep) where
   pub inside_one_grown : (x y : OpenKey × ℕ) → IsOpenLine g x → IsOpenLine g y → inside_one h e x y ≡ inside_one g e x y
-  inside_one_grown x y i j = two_open (λ ty u v. kept_terms ty e.most (inside_term e (u, x.1) (v, y.1) ∷ [])) x.0 y.0 i.0 j.0
+  inside_one_grown x y i j = two_open g h is a (λ ty u v. kept_terms ty e.most (inside_term e (u, x.1) (v, y.1) ∷ [])) x.0 y.0 i.0 j.0
 
   pub inside_fit_grown : (x y : OpenKey × ℕ) → IsOpenLine g x → IsOpenLine g y → IsInsideFit g.pool.types e (opened_in g x.0) (opened_in g y.0) →
       IsInsideFit h.pool.types e (opened_in h x.0) (opened_in h y.0)
@@ -116,21 +148,18 @@ module _ (g h : GroveContent) (is : IsGrove g) (a : IsGrownGrove g h) (e : EdgeS
   inside_fits_grown x (y ∷ ys) i j fits = (inside_fit_grown x y i j.0 fits.0, inside_fits_grown x ys i j.1 fits.1)
 
   module _ (s : List ℕ) where
-    pub outside_one_grown : (x : ExtractKey × ℕ) (y : OpenKey × ℕ) → IsExtractLine g x → IsOpenLine g y → outside_one h e s x y ≡ outside_one g e s x y
-    outside_one_grown x y i j = with_open (λ ty u v. kept_terms ty e.most (outside_term e s (u, x.1) (v, y.1) ∷ [])) x.0 y.0 i.0 j.0
+    pub raised_one_grown : (y : OpenKey × ℕ) → IsOpenLine g y → raised_one h e s y ≡ raised_one g e s y
+    raised_one_grown y j = two_open g h is a (λ ty u v. kept_terms ty e.most (raised_term s (v, y.1) ∷ [])) y.0 y.0 j.0 j.0
+
+    pub raised_fit_grown : (y : OpenKey × ℕ) → IsOpenLine g y → IsRaisedFit g.pool.types e s (opened_in g y.0) → IsRaisedFit h.pool.types e s (opened_in h y.0)
+    raised_fit_grown y j fit = subst (λ (ty : Types). IsRaisedFit ty e s (opened_in h y.0)) (sym a.pool.types)
+        (subst (λ (z : Opened). IsRaisedFit g.pool.types e s z) (sym (opened_grown g h y.0 is a j.0)) fit)
 
     pub outside_fit_grown : (x : ExtractKey × ℕ) (y : OpenKey × ℕ) → IsExtractLine g x → IsOpenLine g y → IsOutsideFit g.pool.types e s (extracted_in g x.0) (opened_in g y.0) →
         IsOutsideFit h.pool.types e s (extracted_in h x.0) (opened_in h y.0)
     outside_fit_grown x y i j fit = subst (λ (ty : Types). IsOutsideFit ty e s (extracted_in h x.0) (opened_in h y.0)) (sym a.pool.types)
         (subst (λ (z : Extracted). IsOutsideFit g.pool.types e s z (opened_in h y.0)) (sym (extracted_grown g h x.0 is a i.0))
         (subst (λ (z : Opened). IsOutsideFit g.pool.types e s (extracted_in g x.0) z) (sym (opened_grown g h y.0 is a j.0)) fit))
-
-    pub outside_row_grown : (x : ExtractKey × ℕ) (ys : List (OpenKey × ℕ)) → IsExtractLine g x → AreOpenLines g ys → outside_row h e s x ys ≡ outside_row g e s x ys
-    outside_row_grown x ys i j =
-        ap (λ (ty : Types). kept_terms ty e.most (scaled x.1 (products_with (outside_factor s) (outside s e.kind.0 e.p.entries) (extracted_in h x.0) (opened_terms_in h ys)))) a.pool.types
-        ∙ ap (λ (z : Extracted). kept_terms g.pool.types e.most (scaled x.1 (products_with (outside_factor s) (outside s e.kind.0 e.p.entries) z (opened_terms_in h ys)))) (extracted_grown g h x.0 is a i.0)
-        ∙ ap (λ (ts : List (Opened × ℕ)). kept_terms g.pool.types e.most (scaled x.1 (products_with (outside_factor s) (outside s e.kind.0 e.p.entries) (extracted_in g x.0) ts)))
-        (open_terms_grown g h ys is a j)
 
     pub outside_fits_grown : (x : ExtractKey × ℕ) (ys : List (OpenKey × ℕ)) → IsExtractLine g x → AreOpenLines g ys →
         AllByRecursion (λ y. IsOutsideFit g.pool.types e s (extracted_in g x.0) (opened_in g y.0)) ys →
@@ -150,7 +179,7 @@ module _ (g h : GroveContent) (is : IsGrove g) (a : IsGrownGrove g h) (e : EdgeS
         (open_terms_grown g h ys is a j)
 
   pub beside_one_grown : (x y : ExtractKey × ℕ) → IsExtractLine g x → IsExtractLine g y → beside_one h e x y ≡ beside_one g e x y
-  beside_one_grown x y i j = two_closed (λ ty u v. saturated_terms (beside_term e (u, x.1) (v, y.1) ∷ [])) x.0 y.0 i.0 j.0
+  beside_one_grown x y i j = two_closed g h is a (λ ty u v. saturated_terms (beside_term e (u, x.1) (v, y.1) ∷ [])) x.0 y.0 i.0 j.0
 
   pub beside_fit_grown : (x y : ExtractKey × ℕ) → IsExtractLine g x → IsExtractLine g y → IsBesideFit g.pool.types e (extracted_in g x.0) (extracted_in g y.0) →
       IsBesideFit h.pool.types e (extracted_in h x.0) (extracted_in h y.0)
@@ -187,17 +216,22 @@ inside_rows_parts g e ys x xs =
     kept_terms-append g.pool.types e.most (scaled x.1 (products_with inside_factor (inside e.kind.0 e.p.entries) (opened_in g x.0) (opened_terms_in g ys)))
     (products inside_factor (inside e.kind.0 e.p.entries) (opened_terms_in g xs) (opened_terms_in g ys))
 
-pub outside_row_parts : (g : GroveContent) (e : EdgeStep) (s : List ℕ) (x : ExtractKey × ℕ) (y : OpenKey × ℕ) (ys : List (OpenKey × ℕ)) →
-    outside_row g e s x (y ∷ ys) ≡ outside_one g e s x y ++ outside_row g e s x ys
-outside_row_parts g e s x y ys =
-    kept_terms-append g.pool.types e.most (outside_term e s (extracted_in g x.0, x.1) (opened_in g y.0, y.1) ∷ [])
-    (scaled x.1 (products_with (outside_factor s) (outside s e.kind.0 e.p.entries) (extracted_in g x.0) (opened_terms_in g ys)))
+pub raised_row_parts : (g : GroveContent) (e : EdgeStep) (s : List ℕ) (y : OpenKey × ℕ) (ys : List (OpenKey × ℕ)) →
+    raised_row g e s (y ∷ ys) ≡ raised_one g e s y ++ raised_row g e s ys
+raised_row_parts g e s y ys =
+    kept_terms-append g.pool.types e.most (raised_term s (opened_in g y.0, y.1) ∷ []) (map (raised_term s) (opened_terms_in g ys))
 
-pub outside_rows_parts : (g : GroveContent) (e : EdgeStep) (s : List ℕ) (ys : List (OpenKey × ℕ)) (x : ExtractKey × ℕ) (xs : List (ExtractKey × ℕ)) →
-    outside_rows g e s ys (x ∷ xs) ≡ outside_row g e s x ys ++ outside_rows g e s ys xs
-outside_rows_parts g e s ys x xs =
-    kept_terms-append g.pool.types e.most (scaled x.1 (products_with (outside_factor s) (outside s e.kind.0 e.p.entries) (extracted_in g x.0) (opened_terms_in g ys)))
-    (products (outside_factor s) (outside s e.kind.0 e.p.entries) (extracted_terms_in g xs) (opened_terms_in g ys))
+pub over_row_parts : (g : GroveContent) (k : ℕ) (p : List ℕ) (x : ExtractKey × ℕ) (y : OpenKey × ℕ) (ys : List (OpenKey × ℕ)) →
+    over_row g k p x (y ∷ ys) ≡ over_one g k p x y ++ over_row g k p x ys
+over_row_parts g k p x y ys =
+    saturated_terms-append (over_term k p (extracted_in g x.0, x.1) (opened_in g y.0, y.1) ∷ [])
+    (scaled x.1 (products_with (λ x y. 1) (over k p) (extracted_in g x.0) (opened_terms_in g ys)))
+
+pub over_rows_parts : (g : GroveContent) (k : ℕ) (p : List ℕ) (ys : List (OpenKey × ℕ)) (x : ExtractKey × ℕ) (xs : List (ExtractKey × ℕ)) →
+    over_rows g k p ys (x ∷ xs) ≡ over_row g k p x ys ++ over_rows g k p ys xs
+over_rows_parts g k p ys x xs =
+    saturated_terms-append (scaled x.1 (products_with (λ x y. 1) (over k p) (extracted_in g x.0) (opened_terms_in g ys)))
+    (products (λ x y. 1) (over k p) (extracted_terms_in g xs) (opened_terms_in g ys))
 
 pub outside_shifts_parts : (g : GroveContent) (e : EdgeStep) (xs : List (ExtractKey × ℕ)) (ys : List (OpenKey × ℕ)) (s : Multi) (ss : List Multi) →
     outside_shifts g e xs ys (s ∷ ss) ≡ outside_rows g e s.entries ys xs ++ outside_shifts g e xs ys ss

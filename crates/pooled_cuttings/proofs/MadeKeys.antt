@@ -23,16 +23,18 @@ use Rattle.tree_pool.specs.declared.node.TreeId.{TreeId}
 use Rattle.tree_pool.specs.declared.forest.ForestId.{ForestId}
 use Rattle.tree_pool.proofs.Walks.{at_holds}
 use Rattle.tree_cuttings.specs.Roots.{has_edge}
+use Rattle.tree_cuttings.proofs.Positive.{choose_pos}
 use Rattle.cutting_sizes.proofs.Counts.{sum-plus}
-use Rattle.cutting_tables.specs.Keys.{Opened, inside, inside_factor, outside, outside_factor, beside, closes, closing}
+use Rattle.cutting_tables.specs.Keys.{Opened, inside, inside_factor, beside, closes, closing}
+use Rattle.exact_sums.proofs.SaturatingLaws.{saturated_mul_left}
 use Rattle.cutting_tables.proofs.Collecting.{product_value}
 use Rattle.pooled_cuttings.specs.declared.keys.OpenKey.{OpenKey}
 use Rattle.pooled_cuttings.specs.declared.keys.ExtractKey.{ExtractKey}
 use Rattle.pooled_cuttings.specs.Groves.{GroveContent, IsGrove, IsGrownGrove, forest_in}
 use Rattle.pooled_cuttings.specs.Lines.{opened_in, extracted_in, opened_terms_in, extracted_terms_in, IsOpenKey, IsExtractKey, IsOpenLine, IsExtractLine, AreOpenLines, AreExtractLines}
-use Rattle.pooled_cuttings.specs.Products.{is_low, kept_terms, HoldsForest, CanHold}
+use Rattle.pooled_cuttings.specs.Products.{is_low, kept_terms, over, raised_open, raised_term, HoldsForest, CanHold}
 use Rattle.pooled_cuttings.proofs.Groves.{more_trees, grove_trans, tree_grown, forest_grown, holds_grown, holds_forest_grown}
-use Rattle.pooled_cuttings.proofs.Means.{open_of, pair_of, open_lines_grown, open_terms_grown, extract_lines_grown, extract_terms_grown, rekeyed-append}
+use Rattle.pooled_cuttings.proofs.Means.{open_of, pair_of, open_key_grown, open_lines_grown, open_terms_grown, extract_lines_grown, extract_terms_grown, rekeyed-append}
 use Rattle.pooled_cuttings.proofs.Rows.{all_append}
 
 -- canonical form loses nothing
@@ -92,11 +94,11 @@ inside_value g x y c d m n a b =
     ∙ ap (λ (r : List ℕ). saturated (c * (choose (plus_of r n) r * d))) (sym a)
     ∙ ap (λ (r : List ℕ). saturated (c * (choose (plus_of (root_of (tree_at g.pool x.quotient.0)) r) (root_of (tree_at g.pool x.quotient.0)) * d))) (sym b)
 
-pub outside_value : (g : GroveContent) (s : List ℕ) (x : ExtractKey) (y : OpenKey) (c d : ℕ) (n : List ℕ) → root_of (tree_at g.pool y.part.0) ≡ n →
-    saturating_times (saturating_times c (saturated (choose (plus_of s n) s))) d ≡ saturated (c * (outside_factor s (extracted_in g x) (opened_in g y) * d))
-outside_value g s x y c d n b =
-    product_value c (choose (plus_of s n) s) d
-    ∙ ap (λ (r : List ℕ). saturated (c * (choose (plus_of s r) s * d))) (sym b)
+pub raised_value : (g : GroveContent) (s : List ℕ) (y : OpenKey) (d : ℕ) (n : List ℕ) → root_of (tree_at g.pool y.part.0) ≡ n →
+    saturating_times (saturated (choose (plus_of s n) s)) d ≡ saturated (raised_term s (opened_in g y, d)).1
+raised_value g s y d n b =
+    saturated_mul_left (choose (plus_of s n) s) d
+    ∙ ap (λ (r : List ℕ). saturated (choose (plus_of s r) s * d)) (sym b)
 
 -- keys of trees and forests that are there
 pub open_key_held : (g : GroveContent) (above : ForestId) (part quotient : TreeId) (fs : List Plain) (p q : Plain) → HoldsForest g above.0 fs → Holds g.pool part.0 p →
@@ -151,20 +153,34 @@ inside_made g h i j k p x y above part quotient is kx ky a b c held_part held_qu
     (holds_grown h j part.0 _ (grove_trans h i j b c) held_part)
     (holds_grown i j quotient.0 _ c second)
 
-pub outside_made : (g h i j : GroveContent) (s : List ℕ) (k : ℕ) (p q : List ℕ) (x : ExtractKey) (y : OpenKey) (above : ForestId) (part quotient : TreeId) → IsGrove g →
-    IsExtractKey g x → IsOpenKey g y → IsGrownGrove g h → IsGrownGrove h i → IsGrownGrove i j → q ≡ plus_of p s →
+pub raised_made : (g h : GroveContent) (s : List ℕ) (y : OpenKey) (part : TreeId) → IsGrove g → IsOpenKey g y → IsGrownGrove g h →
     Holds h.pool part.0 (raised s (tree_at g.pool y.part.0)) →
-    Holds i.pool quotient.0 (canon (graft k q (tree_at h.pool x.quotient.0) (tree_at h.pool y.quotient.0))) →
-    HoldsForest j above.0 (canon_forest (forest_in i x.forest.0 ++ forest_in i y.above.0)) →
-    IsOpenKey j (record { above = above; part = part; quotient = quotient })
-    × (opened_in j (record { above = above; part = part; quotient = quotient }) ≡ outside s k p (extracted_in g x) (opened_in g y))
-outside_made g h i j s k p q x y above part quotient is kx ky a b c e held_part held_quotient held_above =
-    let root = subst (λ (m : List ℕ). Holds i.pool quotient.0 (canon (graft k m (tree_at h.pool x.quotient.0) (tree_at h.pool y.quotient.0)))) e held_quotient in
-    let second = subst (λ (t : Plain). Holds i.pool quotient.0 (canon t)) (graft_grown g h k (plus_of p s) x.quotient.0 y.quotient.0 a kx.quotient ky.quotient) root in
-    open_key_held j above part quotient _ _ _
-    (union_held g i j above x.forest.0 y.above.0 is (grove_trans g h i a b) kx.forest ky.above held_above)
-    (holds_grown h j part.0 _ (grove_trans h i j b c) held_part)
-    (holds_grown i j quotient.0 _ c second)
+    IsOpenKey h (record { above = y.above; part = part; quotient = y.quotient })
+    × (opened_in h (record { above = y.above; part = part; quotient = y.quotient }) ≡ raised_open s (opened_in g y))
+raised_made g h s y part is k a held =
+    let there = open_key_grown g h y a k in (
+      record { above = there.above; part = slice_get_within h.pool.trees part.0 _ held; quotient = there.quotient },
+      ap (λ (fs : List Plain). open_of fs (tree_at h.pool part.0) (tree_at h.pool y.quotient.0)) (forest_grown g h y.above.0 is a k.above)
+          ∙ ap (λ (t : Plain). open_of (forest_in g y.above.0) t (tree_at h.pool y.quotient.0)) (at_holds h.pool part.0 _ held)
+          ∙ ap (open_of (forest_in g y.above.0) (raised s (tree_at g.pool y.part.0))) (tree_grown g h y.quotient.0 a k.quotient),
+    )
+
+pub outside_made : (g h i : GroveContent) (k : ℕ) (p : List ℕ) (x : ExtractKey) (y : OpenKey) (above : ForestId) (quotient : TreeId) → IsGrove g →
+    IsExtractKey g x → IsOpenKey g y → IsGrownGrove g h → IsGrownGrove h i →
+    Holds h.pool quotient.0 (canon (graft k p (tree_at g.pool x.quotient.0) (tree_at g.pool y.quotient.0))) →
+    HoldsForest i above.0 (canon_forest (forest_in h x.forest.0 ++ forest_in h y.above.0)) →
+    IsOpenKey i (record { above = above; part = y.part; quotient = quotient })
+    × (opened_in i (record { above = above; part = y.part; quotient = quotient }) ≡ over k p (extracted_in g x) (opened_in g y))
+outside_made g h i k p x y above quotient is kx ky a b held_quotient held_above =
+    let whole = grove_trans g h i a b in
+    let part = open_key_grown g i y whole ky in
+    let forest = union_held g h i above x.forest.0 y.above.0 is a kx.forest ky.above held_above in
+    let second = holds_grown h i quotient.0 _ b held_quotient in (
+      record { above = forest.known; part = part.part; quotient = slice_get_within i.pool.trees quotient.0 _ second },
+      ap (λ (fs : List Plain). open_of fs (tree_at i.pool y.part.0) (tree_at i.pool quotient.0)) forest.trees
+          ∙ ap (λ (t : Plain). open_of (canon_forest (forest_in g x.forest.0 ++ forest_in g y.above.0)) t (tree_at i.pool quotient.0)) (tree_grown g i y.part.0 whole ky.part)
+          ∙ ap (open_of (canon_forest (forest_in g x.forest.0 ++ forest_in g y.above.0)) (tree_at g.pool y.part.0)) (at_holds i.pool quotient.0 _ second),
+    )
 
 pub beside_made : (g h i : GroveContent) (k : ℕ) (p : List ℕ) (x y : ExtractKey) (forest : ForestId) (quotient : TreeId) → IsGrove g →
     IsExtractKey g x → IsExtractKey g y → IsGrownGrove g h → IsGrownGrove h i →
@@ -228,6 +244,10 @@ low_inside g q b k p most x y e h =
 pub low_outside : (g : GroveContent) (q : Content) (b : Bool) (s : List ℕ) (most : ℤ) (y : OpenKey) → q ≡ g.pool →
     b ≡ is_low q.types most (raised s (tree_at q y.part.0)) → is_low g.pool.types most (raised s (tree_at g.pool y.part.0)) ≡ b
 low_outside g q b s most y e h = sym (h ∙ ap (λ (c : Content). is_low c.types most (raised s (tree_at c y.part.0))) e)
+
+pub raised_above : (s : List ℕ) (y : Opened) (d v : ℕ) → 0 < d → v ≡ saturated (raised_term s (y, d)).1 → (0 < v) × (v ≤ overflow)
+raised_above s y d v j e =
+    value_above 1 (choose (plus_of s (root_of y.part)) s) d v (omega arith) (choose_pos s (root_of y.part)) j (e ∙ ap saturated (omega arith))
 
 pub nothing_kept : (ty : Types) (most : ℤ) (ts : List (Opened × ℕ)) (x : Opened) (n : ℕ) → is_low ty most x.part ≡ false → ts ≡ ts ++ kept_terms ty most ((x, n) ∷ [])
 nothing_kept ty most ts x n h = sym (append-nil ts) ∙ ap (λ (us : List (Opened × ℕ)). ts ++ us) (sym (kept_none ty most x n h))

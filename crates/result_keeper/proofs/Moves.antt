@@ -45,7 +45,9 @@ new_context-same p ps c h = ap (λ b. unwrap_or (option_map (λ q. q.1) (cond b 
 new_context-other : (p : List ℕ × List ℕ) (ps : Pairs) (c : List ℕ) → bytes_eq c p.0 ≡ false → new_context (p ∷ ps) c ≡ new_context ps c
 new_context-other p ps c h = ap (λ b. unwrap_or (option_map (λ q. q.1) (cond b (Some p) (find (λ q. bytes_eq c q.0) ps))) c) h
 
-among_rest : (p : List ℕ × List ℕ) (ps : Pairs) (c : List ℕ) → bytes_eq c p.0 ≡ false → list_any (bytes_eq c) (p.0 ∷ map (λ q. q.0) ps) ≡ true → list_any (bytes_eq c) (map (λ q. q.0) ps) ≡ true
+among_rest : (p : List ℕ × List ℕ) (ps : Pairs) (c : List ℕ) → bytes_eq c p.0 ≡ false →
+    list_any (bytes_eq c) (p.0 ∷ map (λ q. q.0) ps) ≡ true →
+    list_any (bytes_eq c) (map (λ q. q.0) ps) ≡ true
 among_rest p ps c h m = sym (ap (λ b. b || list_any (bytes_eq c) (map (λ q. q.0) ps)) h) ∙ m
 
 new_among : (ps : Pairs) (c : List ℕ) → list_any (bytes_eq c) (map (λ q. q.0) ps) ≡ true → list_any (bytes_eq (new_context ps c)) (map (λ q. q.1) ps) ≡ true
@@ -67,7 +69,9 @@ clash x y ns a e m =
     cc
 
 -- no two old contexts have one new one
-new_context-apart : (ps : Pairs) (a b : List ℕ) → IsDistinct bytes_eq (map (λ q. q.1) ps) → list_any (bytes_eq a) (map (λ q. q.0) ps) ≡ true → list_any (bytes_eq b) (map (λ q. q.0) ps) ≡ true → new_context ps a ≡ new_context ps b → a ≡ b
+new_context-apart : (ps : Pairs) (a b : List ℕ) → IsDistinct bytes_eq (map (λ q. q.1) ps) →
+    list_any (bytes_eq a) (map (λ q. q.0) ps) ≡ true →
+    list_any (bytes_eq b) (map (λ q. q.0) ps) ≡ true → new_context ps a ≡ new_context ps b → a ≡ b
 unfolding IsDistinct
 new_context-apart [] a b d m n h = absurd cc
 new_context-apart (p ∷ ps) a b d m n h =
@@ -86,7 +90,9 @@ new_context-apart (p ∷ ps) a b d m n h =
 abbrev IsOld : Pairs → Entry → Type 0
 IsOld ps e = list_any (bytes_eq e.0.0) (map (λ q. q.0) ps) ≡ true
 
-keys_apart : (ps : Pairs) (e f : Entry) → IsDistinct bytes_eq (map (λ q. q.1) ps) → IsOld ps e → IsOld ps f → eq_by_cmp row_cmp e.0 f.0 ≡ false → eq_by_cmp row_cmp (moved ps e).0 (moved ps f).0 ≡ false
+keys_apart : (ps : Pairs) (e f : Entry) → IsDistinct bytes_eq (map (λ q. q.1) ps) → IsOld ps e →
+    IsOld ps f → eq_by_cmp row_cmp e.0 f.0 ≡ false →
+    eq_by_cmp row_cmp (moved ps e).0 (moved ps f).0 ≡ false
 keys_apart ps e f d m n apart =
     (elim (eq_by_cmp row_cmp (moved ps e).0 (moved ps f).0) as (λ b. eq_by_cmp row_cmp (moved ps e).0 (moved ps f).0 ≡ b → b ≡ false) [
       | true ↦ λ t.
@@ -99,11 +105,15 @@ keys_apart ps e f d m n apart =
       | false ↦ λ t. refl
     ]) refl
 
-moved_apart_from : (ps : Pairs) (e : Entry) (es : List Entry) → IsDistinct bytes_eq (map (λ q. q.1) ps) → IsOld ps e → AllByRecursion (IsOld ps) es → AllByRecursion (λ y. eq_by_cmp row_cmp e.0 y ≡ false) (map (λ f. f.0) es) → AllByRecursion (λ y. eq_by_cmp row_cmp (moved ps e).0 y ≡ false) (map (λ f. f.0) (map (moved ps) es))
+moved_apart_from : (ps : Pairs) (e : Entry) (es : List Entry) →
+    IsDistinct bytes_eq (map (λ q. q.1) ps) → IsOld ps e → AllByRecursion (IsOld ps) es →
+    AllByRecursion (λ y. eq_by_cmp row_cmp e.0 y ≡ false) (map (λ f. f.0) es) →
+    AllByRecursion (λ y. eq_by_cmp row_cmp (moved ps e).0 y ≡ false) (map (λ f. f.0) (map (moved ps) es))
 moved_apart_from ps e [] d m all apart = tt
 moved_apart_from ps e (f ∷ es) d m all apart = (keys_apart ps e f d m all.0 apart.0, moved_apart_from ps e es d m all.1 apart.1)
 
-moved_apart : (ps : Pairs) (es : List Entry) → IsDistinct bytes_eq (map (λ q. q.1) ps) → AllByRecursion (IsOld ps) es → AreApart row_cmp es → AreApart row_cmp (map (moved ps) es)
+moved_apart : (ps : Pairs) (es : List Entry) → IsDistinct bytes_eq (map (λ q. q.1) ps) →
+    AllByRecursion (IsOld ps) es → AreApart row_cmp es → AreApart row_cmp (map (moved ps) es)
 unfolding IsDistinct
 moved_apart ps [] d all apart = tt
 moved_apart ps (e ∷ es) d all apart = (moved_apart_from ps e es d all.0 all.1 apart.0, moved_apart ps es d all.1 apart.1)
@@ -120,7 +130,9 @@ among-dedup q (x ∷ xs) = go x xs
           | false ↦ λ t. ap (λ b. bytes_eq q k || b) (go x xs)
         ]) refl
 
-all_among : (es : List Entry) (cs : List (List ℕ)) → ((q : List ℕ) → list_any (bytes_eq q) (map (λ r. r.0) (map (λ e. e.0) es)) ≡ true → list_any (bytes_eq q) cs ≡ true) → AllByRecursion (λ e. list_any (bytes_eq e.0.0) cs ≡ true) es
+all_among : (es : List Entry) (cs : List (List ℕ)) →
+    ((q : List ℕ) → list_any (bytes_eq q) (map (λ r. r.0) (map (λ e. e.0) es)) ≡ true → list_any (bytes_eq q) cs ≡ true) →
+    AllByRecursion (λ e. list_any (bytes_eq e.0.0) cs ≡ true) es
 all_among [] cs h = tt
 all_among (e ∷ es) cs h = (
   h e.0.0 (or_here (bytes_eq e.0.0 e.0.0) (list_any (bytes_eq e.0.0) (map (λ r. r.0) (map (λ f. f.0) es))) (bytes_itself e.0.0)),
@@ -137,16 +149,22 @@ all_old ps es apart olds =
     ∙ a)
 
 -- no pair of a context and a tree comes twice after the migration
-pub moves_apart : (ps : Pairs) (es : List Entry) → AreApart row_cmp es → map (λ q. q.0) ps ≡ contexts_in (from_entries es) → IsDistinct bytes_eq (map (λ q. q.1) ps) → AreApart row_cmp (map (moved ps) es)
+pub moves_apart : (ps : Pairs) (es : List Entry) → AreApart row_cmp es →
+    map (λ q. q.0) ps ≡ contexts_in (from_entries es) → IsDistinct bytes_eq (map (λ q. q.1) ps) →
+    AreApart row_cmp (map (moved ps) es)
 moves_apart ps es apart olds d = moved_apart ps es d (all_old ps es apart olds) apart
 
 -- the moved rows of a list make the moved rows of its map
-pub moves : (ps : Pairs) (es : List Entry) → AreApart row_cmp es → map (λ q. q.0) ps ≡ contexts_in (from_entries es) → IsDistinct bytes_eq (map (λ q. q.1) ps) → from_entries (map (moved ps) es) ≡ moved_rows ps (from_entries es)
+pub moves : (ps : Pairs) (es : List Entry) → AreApart row_cmp es →
+    map (λ q. q.0) ps ≡ contexts_in (from_entries es) → IsDistinct bytes_eq (map (λ q. q.1) ps) →
+    from_entries (map (moved ps) es) ≡ moved_rows ps (from_entries es)
 moves ps es apart olds d =
     let m : Rows = from_entries es in
     same_in_any_order row_cmp row_total bytes_cmp bytes_total row_exact bytes_exact (map (moved ps) es) (map (moved ps) (entries m)) (moves_apart ps es apart olds d) (IsPermutation-map (moved ps) es (entries m) (entries_permute row_cmp row_total es apart))
 
-one_more : (ps : Pairs) (p : List ℕ × List ℕ) (c : List ℕ) → AllByRecursion (λ q. bytes_eq q.1 p.0 ≡ false) ps → new_context (p ∷ []) (new_context ps c) ≡ new_context (ps ++ p ∷ []) c
+one_more : (ps : Pairs) (p : List ℕ × List ℕ) (c : List ℕ) →
+    AllByRecursion (λ q. bytes_eq q.1 p.0 ≡ false) ps →
+    new_context (p ∷ []) (new_context ps c) ≡ new_context (ps ++ p ∷ []) c
 one_more [] p c a = refl
 one_more (q ∷ ps) p c a =
     (elim (bytes_eq c q.0) as (λ b. bytes_eq c q.0 ≡ b → new_context (p ∷ []) (new_context (q ∷ ps) c) ≡ new_context (q ∷ ps ++ p ∷ []) c) [
@@ -154,6 +172,9 @@ one_more (q ∷ ps) p c a =
       | false ↦ λ h. ap (new_context (p ∷ [])) (new_context-other q ps c h) ∙ one_more ps p c a.1 ∙ sym (new_context-other q (ps ++ p ∷ []) c h)
     ]) refl
 
--- a row that is moved by some pairs, and then by one more whose old context is none of their new ones
-pub moved_then : (ps : Pairs) (p : List ℕ × List ℕ) (e : Entry) → AllByRecursion (λ q. bytes_eq q.1 p.0 ≡ false) ps → moved (p ∷ []) (moved ps e) ≡ moved (ps ++ p ∷ []) e
+-- a row that is moved by some pairs, and then by one more whose old context is none of their new
+-- ones
+pub moved_then : (ps : Pairs) (p : List ℕ × List ℕ) (e : Entry) →
+    AllByRecursion (λ q. bytes_eq q.1 p.0 ≡ false) ps →
+    moved (p ∷ []) (moved ps e) ≡ moved (ps ++ p ∷ []) e
 moved_then ps p e a = ap (λ (c : List ℕ). ((c, e.0.1), e.1)) (one_more ps p e.0.0 a)

@@ -47,7 +47,8 @@ count_of-sum z [] = refl
 count_of-sum z (p ∷ ps) = sum_by-cons (λ p. cond (is_eq (row_cmp z p)) 1 0) p ps ∙ ap (λ n. cond (is_eq (row_cmp z p)) 1 0 + n) (count_of-sum z ps)
 
 -- of two rows of a context, the one with the greater tree is not below
-not_below : (c : List ℕ) (e f : Entry) → bytes_eq e.0.0 c ≡ true → bytes_eq f.0.0 c ≡ true → row_cmp e.0 f.0 ≡ Less → is_lt (row_cmp (f.0.1, f.1) (e.0.1, e.1)) ≡ false
+not_below : (c : List ℕ) (e f : Entry) → bytes_eq e.0.0 c ≡ true → bytes_eq f.0.0 c ≡ true →
+    row_cmp e.0 f.0 ≡ Less → is_lt (row_cmp (f.0.1, f.1) (e.0.1, e.1)) ≡ false
 not_below c e f m n h =
     let same : e.0.0 ≡ f.0.0 = (bytes_eq-Decides e.0.0 c).0 m ∙ sym ((bytes_eq-Decides f.0.0 c).0 n) in
     let tie : bytes_cmp e.0.0 f.0.0 ≡ Equal = ap (λ x. bytes_cmp e.0.0 x) (sym same) ∙ tied_itself bytes_total e.0.0 in
@@ -55,7 +56,9 @@ not_below c e f m n h =
     let after : bytes_cmp f.0.1 e.0.1 ≡ Greater = bytes_total.antisymm f.0.1 e.0.1 ∙ ap ordering_reverse less in
     rw after refl
 
-none_below : (c : List ℕ) (e : Entry) (es : List Entry) → bytes_eq e.0.0 c ≡ true → T (below_all row_cmp e.0 es) → AllByRecursion (λ p. is_lt (row_cmp p (e.0.1, e.1)) ≡ false) (within c es)
+none_below : (c : List ℕ) (e : Entry) (es : List Entry) → bytes_eq e.0.0 c ≡ true →
+    T (below_all row_cmp e.0 es) →
+    AllByRecursion (λ p. is_lt (row_cmp p (e.0.1, e.1)) ≡ false) (within c es)
 none_below c e [] m h = tt
 none_below c e (f ∷ es) m h =
     let rest = none_below c e es m (second_of (is_lt (row_cmp e.0 f.0)) (below_all row_cmp e.0 es) h) in
@@ -94,7 +97,8 @@ context_not_below x y h =
       | Greater ↦ λ g. absurd cc
     ]) h
 
-contexts_below : (k : List ℕ × List ℕ) (es : List Entry) → T (below_all row_cmp k es) → AllByRecursion (λ y. is_lt (bytes_cmp y k.0) ≡ false) (map (λ r. r.0) (map (λ e. e.0) es))
+contexts_below : (k : List ℕ × List ℕ) (es : List Entry) → T (below_all row_cmp k es) →
+    AllByRecursion (λ y. is_lt (bytes_cmp y k.0) ≡ false) (map (λ r. r.0) (map (λ e. e.0) es))
 contexts_below k [] h = tt
 contexts_below k (e ∷ es) h = (context_not_below k e.0 (less_of (row_cmp k e.0) (first_of (is_lt (row_cmp k e.0)) (below_all row_cmp k es) h)), contexts_below k es (second_of (is_lt (row_cmp k e.0)) (below_all row_cmp k es) h))
 
@@ -103,7 +107,9 @@ sorted_contexts [] h = λ k d l m. absurd (omega arith)
 sorted_contexts (e ∷ es) h = sorted-cons bytes_cmp bytes_total e.0.0 (map (λ r. r.0) (map (λ f. f.0) es)) (sorted_contexts es (second_of (below_all row_cmp e.0 es) (is_sorted row_cmp es) h)) (contexts_below e.0 es (first_of (below_all row_cmp e.0 es) (is_sorted row_cmp es) h))
 
 -- the contexts in order, each once, are those of the map
-pub sorted_are_contexts : (es : List Entry) (cs : List (List ℕ)) → AreApart row_cmp es → IsPermutation (map (λ r. r.0) (map (λ e. e.0) es)) cs → IsSorted bytes_cmp cs → dedup bytes_eq cs ≡ contexts_in (from_entries es)
+pub sorted_are_contexts : (es : List Entry) (cs : List (List ℕ)) → AreApart row_cmp es →
+    IsPermutation (map (λ r. r.0) (map (λ e. e.0) es)) cs → IsSorted bytes_cmp cs →
+    dedup bytes_eq cs ≡ contexts_in (from_entries es)
 sorted_are_contexts es cs apart p up =
     let m : Rows = from_entries es in
     let all = map (λ (r : List ℕ × List ℕ). r.0) (keys m) in
@@ -112,7 +118,9 @@ sorted_are_contexts es cs apart p up =
     (IsPermutation-map (λ r. r.0) (map (λ e. e.0) es) (keys m) (IsPermutation-map (λ e. e.0) es (entries m) (entries_permute row_cmp row_total es apart)))))
 
 -- neighbours are the same before and after f
-pub map-dedup : {A : Type 0} (f : A → List ℕ) (same : A → A → Bool) → ((x y : A) → same x y ≡ bytes_eq (f x) (f y)) → (xs : List A) → map f (dedup same xs) ≡ dedup bytes_eq (map f xs)
+pub map-dedup : {A : Type 0} (f : A → List ℕ) (same : A → A → Bool) →
+    ((x y : A) → same x y ≡ bytes_eq (f x) (f y)) → (xs : List A) →
+    map f (dedup same xs) ≡ dedup bytes_eq (map f xs)
 map-dedup f same is [] = refl
 map-dedup {A} f same is (x ∷ xs) = go x xs
   where

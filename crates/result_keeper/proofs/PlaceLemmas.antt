@@ -82,7 +82,8 @@ module _ {K X : Type 0} (R : K → K → Ordering) where
         | false ↦ λ g. found q (j + 1) i d es (g ∙ ap (λ (n : ℕ). Some n) (omega arith))
       ]) h
 
-  key_at : IsTotalOrder R → IsAntisymmetric R → (q : K) (j i : ℕ) (d : K × X) (es : List (K × X)) → position_from (at_key q) j es ≡ Some (j + i) → q ≡ (get_or es i d).0
+  key_at : IsTotalOrder R → IsAntisymmetric R → (q : K) (j i : ℕ) (d : K × X) (es : List (K × X)) →
+      position_from (at_key q) j es ≡ Some (j + i) → q ≡ (get_or es i d).0
   key_at o exact q j i d [] h = absurd cc
   key_at o exact q j zero d (e ∷ es) h =
       (elim (eq_by_cmp R q e.0) as (λ b. eq_by_cmp R q e.0 ≡ b → cond b (Some j) (position_from (at_key q) (j + 1) es) ≡ Some (j + 0) → q ≡ e.0) [

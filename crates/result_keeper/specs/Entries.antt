@@ -1,4 +1,5 @@
 -- What the parts of a keeper's calls and of a keeper in memory stand for.
+-- What contracts of public calls say:
 --   file_bytes f == the bytes of a file, where there is one
 --   pair_of r == the tree and the value of a row
 --   context_pair p == the old and the new context of a pair
@@ -7,6 +8,7 @@
 --   AreApart c es == no key comes twice, by the order c
 --   projects_of projects, rows_of rows == the finite maps that they make
 --   tables_of version projects rows == what is kept where they are
+-- Working notions of the code and of proofs:
 --   place_of c key es == the place of the first entry of that key
 --   put_at place x xs == xs with x at that place, or at the end where there is none
 use Rattle.std.specs.Prelude.{ℕ, List, [], ◌∷◌, ◌++◌, map, Option, Some, None, Vec, slice_set}
@@ -47,7 +49,8 @@ abbrev pub rows_of : List KeptRow → Rows
 rows_of rows = from_entries (map row_entry rows)
 
 abbrev pub tables_of : ℕ → List KeptProject → List KeptRow → Kept
-tables_of version projects rows = record { version = version; projects = projects_of projects; rows = rows_of rows }
+tables_of version projects rows =
+    record { version = version; projects = projects_of projects; rows = rows_of rows }
 
 abbrev pub place_of : {K X : Type 0} → (K → K → Ordering) → K → List (K × X) → Option ℕ
 place_of c key es = position_from (λ e. eq_by_cmp c key e.0) 0 es

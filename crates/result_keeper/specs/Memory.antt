@@ -18,7 +18,8 @@ pub record HeldKeeper : Type 0 where
 
 abbrev pub held_code : Coded HeldKeeper
 held_code =
-    code_by (Kept × (List ℕ × (ℕ × ℕ))) (coded× kept_code (coded× (coded_list coded_ℕ) (coded× coded_ℕ coded_ℕ)))
+    code_by (Kept
+    × (List ℕ × (ℕ × ℕ))) (coded× kept_code (coded× (coded_list coded_ℕ) (coded× coded_ℕ coded_ℕ)))
     (λ h. (h.kept, (h.failing, (h.calls, h.faults))))
     (λ p. record { kept = p.0; failing = p.1.0; calls = p.1.1.0; faults = p.1.1.1 })
     (λ _. refl)

@@ -1,7 +1,8 @@
-//! The store of the workbench: projects by their names, and results, the rows of a context and a tree with their value.
+//! The store of the workbench: projects by their names, and results, the rows of a context and a
+//! tree with their value.
 //!
-//! The trait says what a keeper tells of its tables, where it tells, and counts its faults: a call answers a fault only where
-//! the count rose in it. Beside it stand the keepers in memory.
+//! The trait says what a keeper tells of its tables, where it tells, and counts its faults: a call
+//! answers a fault only where the count rose in it. Beside it stand the keepers in memory.
 #![tactic(auto)]
 
 mod error;

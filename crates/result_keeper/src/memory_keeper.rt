@@ -15,7 +15,8 @@ use crate::tables::Tables;
 use std::alloc::Global;
 use std::marker::Model;
 
-/// A keeper in memory. It tells its tables, and the calls whose numbers are listed fail. `version` is no such call.
+/// A keeper in memory. It tells its tables, and the calls whose numbers are listed fail. `version`
+/// is no such call.
 #[derive(Drop)]
 pub struct MemoryKeeper {
     tables: Tables,
@@ -35,7 +36,8 @@ impl Model for MemoryKeeper {
 }
 
 impl MemoryKeeper {
-    /// Version 2 with these projects and rows. `failing` lists the numbers of the calls that fail, from 1. Takes no memory.
+    /// Version 2 with these projects and rows. `failing` lists the numbers of the calls that fail,
+    /// from 1. Takes no memory.
     pub fn new(projects: Vec<KeptProject>, rows: Vec<KeptRow>, failing: Vec<u64>) -> MemoryKeeper
         requires names { AreApart bytes_cmp (map project_entry projects.items) }
         requires rows { AreApart row_cmp (map row_entry rows.items) }
@@ -119,7 +121,8 @@ impl Keeper for MemoryKeeper {
         file: &[u8],
     ) -> Result<Put, KeeperError>
         ensures answer { IfOk result (λ put. put ≡ put_answer self.old.kept.projects name.now) }
-        ensures put { IfOk result (λ put. self.new ≡ after_call self.old (after_put put name.now file.now self.old.kept)) }
+        ensures put { IfOk result (λ put. self.new ≡ after_call self.old
+            (after_put put name.now file.now self.old.kept)) }
         ensures err { OnErr result (self.new ≡ after_call self.old self.old.kept) }
         ensures fails { (result ≡ Err KeeperError.Failed) ↔ IsTrue (call_fails self.old) }
         ensures later { self.old.faults ≤ self.new.faults }
@@ -131,7 +134,8 @@ impl Keeper for MemoryKeeper {
 
     fn remove_project(&mut self, _alloc: Global, name: &ProjectName) -> Result<bool, KeeperError>
         ensures kept { IfOk result (λ kept. kept ≡ contains_key self.old.kept.projects name.now) }
-        ensures removed { OnOk result (self.new ≡ after_call self.old (without_project name.now self.old.kept)) }
+        ensures removed { OnOk result (self.new ≡ after_call self.old
+            (without_project name.now self.old.kept)) }
         ensures err { OnErr result (self.new ≡ after_call self.old self.old.kept) }
         ensures fails { (result ≡ Err KeeperError.Failed) ↔ IsTrue (call_fails self.old) }
         ensures later { self.old.faults ≤ self.new.faults }
@@ -153,7 +157,8 @@ impl Keeper for MemoryKeeper {
     }
 
     fn contexts(&mut self, alloc: Global) -> Result<Vec<Vec<u8>>, KeeperError>
-        ensures contexts { IfOk result (λ contexts. map (λ c. c.items) contexts.items ≡ contexts_of self.old.kept) }
+        ensures contexts { IfOk result (λ contexts. map (λ c. c.items) contexts.items
+            ≡ contexts_of self.old.kept) }
         ensures after { self.new ≡ after_call self.old self.old.kept }
         ensures fails { (result ≡ Err KeeperError.Failed) ↔ IsTrue (call_fails self.old) }
         ensures later { self.old.faults ≤ self.new.faults }
@@ -164,7 +169,8 @@ impl Keeper for MemoryKeeper {
     }
 
     fn results(&mut self, alloc: Global, context: &[u8]) -> Result<Vec<StoredRow>, KeeperError>
-        ensures rows { IfOk result (λ rows. map pair_of rows.items ≡ results_of self.old.kept context.now) }
+        ensures rows { IfOk result (λ rows. map pair_of rows.items
+            ≡ results_of self.old.kept context.now) }
         ensures after { self.new ≡ after_call self.old self.old.kept }
         ensures fails { (result ≡ Err KeeperError.Failed) ↔ IsTrue (call_fails self.old) }
         ensures later { self.old.faults ≤ self.new.faults }
@@ -180,7 +186,8 @@ impl Keeper for MemoryKeeper {
         context: &[u8],
         rows: &[StoredRow],
     ) -> Result<(), KeeperError>
-        ensures put { OnOk result (self.new ≡ after_call self.old (with_rows context.now (map pair_of rows.now) self.old.kept)) }
+        ensures put { OnOk result (self.new ≡ after_call self.old
+            (with_rows context.now (map pair_of rows.now) self.old.kept)) }
         ensures err { OnErr result (self.new ≡ after_call self.old self.old.kept) }
         ensures fails { (result ≡ Err KeeperError.Failed) ↔ IsTrue (call_fails self.old) }
         ensures later { self.old.faults ≤ self.new.faults }
@@ -193,7 +200,8 @@ impl Keeper for MemoryKeeper {
     fn migrate(&mut self, alloc: Global, pairs: &[ContextPair]) -> Result<(), KeeperError>
         requires old { self.old.kept.version ≡ 1 }
         requires pairs { CanMigrate (map context_pair pairs.now) self.old.kept }
-        ensures migrated { OnOk result (self.new ≡ after_call self.old (migrated (map context_pair pairs.now) self.old.kept)) }
+        ensures migrated { OnOk result (self.new ≡ after_call self.old
+            (migrated (map context_pair pairs.now) self.old.kept)) }
         ensures err { OnErr result (self.new ≡ after_call self.old self.old.kept) }
         ensures fails { (result ≡ Err KeeperError.Failed) ↔ IsTrue (call_fails self.old) }
         ensures later { self.old.faults ≤ self.new.faults }

@@ -1,7 +1,8 @@
 // What goes into a keeper and comes out of it.
 use crate::project_name::ProjectName;
 
-/// The value of a tree, both as texts. Rows are in the order of the bytes of their trees, then of their values.
+/// The value of a tree, both as texts. Rows are in the order of the bytes of their trees, then of
+/// their values.
 #[derive(Debug, PartialEq, Eq, PartialOrd, Ord, Drop)]
 pub struct StoredRow {
     pub tree: Vec<u8>,

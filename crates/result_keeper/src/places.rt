@@ -23,7 +23,8 @@ pub fn place_of_project(projects: &[KeptProject], name: &ProjectName) -> Option<
 
 // Whether the row is that of this context and tree.
 fn is_row_of(row: &KeptRow, context: &[u8], tree: &[u8]) -> bool
-    ensures { result ≡ eq_by_cmp row_cmp (context.now, tree.now) (row.now.context.items, row.now.tree.items) }
+    ensures { result ≡ eq_by_cmp row_cmp (context.now, tree.now)
+        (row.now.context.items, row.now.tree.items) }
 {
     context == row.context.as_slice() && tree == row.tree.as_slice()
 }

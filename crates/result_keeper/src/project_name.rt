@@ -8,8 +8,8 @@ use std::marker::Model;
 
 const ROOM: usize = 32;
 
-/// The name of a project: 1 to 32 small letters, digits, `-` or `_`, the first a small letter or a digit. Contracts see its
-/// text, and names are in the order of their bytes.
+/// The name of a project: 1 to 32 small letters, digits, `-` or `_`, the first a small letter or a
+/// digit. Contracts see its text, and names are in the order of their bytes.
 #[derive(Clone, Copy, Debug)]
 pub struct ProjectName {
     buf: [u8; ROOM],

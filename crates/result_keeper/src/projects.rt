@@ -50,7 +50,8 @@ fn keep_file(
     file: &[u8],
 ) -> Result<(), KeeperError>
     requires { AreApart bytes_cmp (map project_entry projects.old.items) }
-    ensures ok { OnOk result (projects_of projects.new.items ≡ insert (projects_of projects.old.items) name.now file.now) }
+    ensures ok { OnOk result (projects_of projects.new.items
+        ≡ insert (projects_of projects.old.items) name.now file.now) }
     ensures err { OnErr result (projects.new.items ≡ projects.old.items) }
     ensures apart { AreApart bytes_cmp (map project_entry projects.new.items) }
     ensures memory { IfErr result (λ e. e ≡ KeeperError.Memory) }
@@ -61,7 +62,8 @@ fn keep_file(
     Ok(())
 }
 
-// Keeps a file under a name, unless the name is new and there are as many projects as a keeper takes.
+// Keeps a file under a name, unless the name is new and there are as many projects as a keeper
+// takes.
 pub fn put_project(
     alloc: Global,
     projects: &mut Vec<KeptProject>,
@@ -69,8 +71,10 @@ pub fn put_project(
     file: &[u8],
 ) -> Result<Put, KeeperError>
     requires { AreApart bytes_cmp (map project_entry projects.old.items) }
-    ensures answer { IfOk result (λ put. put ≡ put_answer (projects_of projects.old.items) name.now) }
-    ensures put { IfOk result (λ put. projects_of projects.new.items ≡ put_file put name.now file.now (projects_of projects.old.items)) }
+    ensures answer { IfOk result (λ put. put ≡ put_answer (projects_of projects.old.items)
+        name.now) }
+    ensures put { IfOk result (λ put. projects_of projects.new.items
+        ≡ put_file put name.now file.now (projects_of projects.old.items)) }
     ensures err { OnErr result (projects.new.items ≡ projects.old.items) }
     ensures apart { AreApart bytes_cmp (map project_entry projects.new.items) }
     ensures memory { IfErr result (λ e. e ≡ KeeperError.Memory) }
@@ -92,7 +96,8 @@ pub fn put_project(
 pub fn remove_project(projects: &mut Vec<KeptProject>, name: &ProjectName) -> bool
     requires { AreApart bytes_cmp (map project_entry projects.old.items) }
     ensures kept { result ≡ contains_key (projects_of projects.old.items) name.now }
-    ensures removed { projects_of projects.new.items ≡ remove (projects_of projects.old.items) name.now }
+    ensures removed { projects_of projects.new.items ≡ remove (projects_of projects.old.items)
+        name.now }
     ensures apart { AreApart bytes_cmp (map project_entry projects.new.items) }
 {
     let kept = place_of_project(projects, name).is_some();

@@ -95,7 +95,8 @@ impl Keeper for QuietKeeper {
     }
 
     fn contexts(&mut self, alloc: Global) -> Result<Vec<Vec<u8>>, KeeperError>
-        ensures contexts { IfOk result (λ contexts. map (λ c. c.items) contexts.items ≡ contexts_of self.old) }
+        ensures contexts { IfOk result (λ contexts. map (λ c. c.items) contexts.items
+            ≡ contexts_of self.old) }
         ensures stays { self.new ≡ self.old }
         ensures never { result ≢ Err KeeperError.Failed }
     {
@@ -103,7 +104,8 @@ impl Keeper for QuietKeeper {
     }
 
     fn results(&mut self, alloc: Global, context: &[u8]) -> Result<Vec<StoredRow>, KeeperError>
-        ensures rows { IfOk result (λ rows. map pair_of rows.items ≡ results_of self.old context.now) }
+        ensures rows { IfOk result (λ rows. map pair_of rows.items
+            ≡ results_of self.old context.now) }
         ensures stays { self.new ≡ self.old }
         ensures never { result ≢ Err KeeperError.Failed }
     {
@@ -116,7 +118,8 @@ impl Keeper for QuietKeeper {
         context: &[u8],
         rows: &[StoredRow],
     ) -> Result<(), KeeperError>
-        ensures put { OnOk result (self.new ≡ with_rows context.now (map pair_of rows.now) self.old) }
+        ensures put { OnOk result (self.new ≡ with_rows context.now (map pair_of rows.now)
+            self.old) }
         ensures err { OnErr result (self.new ≡ self.old) }
         ensures never { result ≢ Err KeeperError.Failed }
     {

@@ -42,7 +42,8 @@ fn copies_of(alloc: Global, rows: &[KeptRow]) -> Result<Vec<KeptRow>, AllocError
 // Puts one row.
 fn put_row(rows: &mut Vec<KeptRow>, row: KeptRow) -> Result<(), AllocError>
     requires { AreApart row_cmp (map row_entry rows.old.items) }
-    ensures ok { OnOk result (rows_of rows.new.items ≡ insert (rows_of rows.old.items) (row_entry row).0 (row_entry row).1) }
+    ensures ok { OnOk result (rows_of rows.new.items ≡ insert (rows_of rows.old.items)
+        (row_entry row).0 (row_entry row).1) }
     ensures apart { AreApart row_cmp (map row_entry rows.new.items) }
 {
     let place = place_of_row(rows, &row.context, &row.tree);
@@ -50,7 +51,8 @@ fn put_row(rows: &mut Vec<KeptRow>, row: KeptRow) -> Result<(), AllocError>
     Ok(())
 }
 
-// The rows after these were put. They are new ones, so that nothing has changed where memory runs out.
+// The rows after these were put. They are new ones, so that nothing has changed where memory runs
+// out.
 pub fn with_results(
     alloc: Global,
     rows: &[KeptRow],
@@ -58,7 +60,8 @@ pub fn with_results(
     given: &[StoredRow],
 ) -> Result<Vec<KeptRow>, AllocError>
     requires { AreApart row_cmp (map row_entry rows.now) }
-    ensures rows { IfOk result (λ next. rows_of next.items ≡ put_rows context.now (map pair_of given.now) (rows_of rows.now)) }
+    ensures rows { IfOk result (λ next. rows_of next.items ≡ put_rows context.now
+        (map pair_of given.now) (rows_of rows.now)) }
     ensures apart { IfOk result (λ next. AreApart row_cmp (map row_entry next.items)) }
 {
     let mut next = copies_of(alloc, rows)?;
@@ -74,7 +77,8 @@ fn rows_within(
     rows: &[KeptRow],
     context: &[u8],
 ) -> Result<Vec<StoredRow>, AllocError>
-    ensures { IfOk result (λ found. map pair_of found.items ≡ within context.now (map row_entry rows.now)) }
+    ensures { IfOk result (λ found. map pair_of found.items
+        ≡ within context.now (map row_entry rows.now)) }
 {
     let mut found = Vec::new(alloc);
     for row in rows {
@@ -92,7 +96,8 @@ pub fn sorted_results(
     context: &[u8],
 ) -> Result<Vec<StoredRow>, AllocError>
     requires { AreApart row_cmp (map row_entry rows.now) }
-    ensures { IfOk result (λ found. map pair_of found.items ≡ within context.now (entries (rows_of rows.now))) }
+    ensures { IfOk result (λ found. map pair_of found.items
+        ≡ within context.now (entries (rows_of rows.now))) }
 {
     let mut found = rows_within(alloc, rows, context)?;
     found.sort_unstable();
@@ -100,7 +105,8 @@ pub fn sorted_results(
 }
 
 fn contexts_of_rows(alloc: Global, rows: &[KeptRow]) -> Result<Vec<Vec<u8>>, AllocError>
-    ensures { IfOk result (λ found. map (λ c. c.items) found.items ≡ map (λ r. r.context.items) rows.now) }
+    ensures { IfOk result (λ found. map (λ c. c.items) found.items
+        ≡ map (λ r. r.context.items) rows.now) }
 {
     let mut found = Vec::new(alloc);
     for row in rows {
@@ -112,7 +118,8 @@ fn contexts_of_rows(alloc: Global, rows: &[KeptRow]) -> Result<Vec<Vec<u8>>, All
 // The contexts of the rows in order, each once.
 pub fn sorted_contexts(alloc: Global, rows: &[KeptRow]) -> Result<Vec<Vec<u8>>, AllocError>
     requires { AreApart row_cmp (map row_entry rows.now) }
-    ensures { IfOk result (λ found. map (λ c. c.items) found.items ≡ contexts_in (rows_of rows.now)) }
+    ensures { IfOk result (λ found. map (λ c. c.items) found.items
+        ≡ contexts_in (rows_of rows.now)) }
 {
     let mut found = contexts_of_rows(alloc, rows)?;
     found.sort_unstable();
@@ -138,7 +145,8 @@ pub fn moved_rows(
     rows: &[KeptRow],
     pairs: &[ContextPair],
 ) -> Result<Vec<KeptRow>, AllocError>
-    ensures { IfOk result (λ next. map row_entry next.items ≡ map (moved (map context_pair pairs.now)) (map row_entry rows.now)) }
+    ensures { IfOk result (λ next. map row_entry next.items
+        ≡ map (moved (map context_pair pairs.now)) (map row_entry rows.now)) }
 {
     let mut next = Vec::new(alloc);
     for row in rows {

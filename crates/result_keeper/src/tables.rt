@@ -13,7 +13,8 @@ use crate::rows::{moved_rows, sorted_contexts, sorted_results, with_results};
 use std::alloc::{AllocError, Global};
 use std::marker::Model;
 
-// Projects and rows in the order in which they came. No name comes twice, and no pair of a context and a tree.
+// Projects and rows in the order in which they came. No name comes twice, and no pair of a context
+// and a tree.
 #[derive(Drop)]
 pub struct Tables {
     version: u8,
@@ -92,7 +93,8 @@ impl Tables {
     }
 
     pub fn contexts(&self, alloc: Global) -> Result<Vec<Vec<u8>>, AllocError>
-        ensures { IfOk result (λ contexts. map (λ c. c.items) contexts.items ≡ contexts_of self.now) }
+        ensures { IfOk result (λ contexts. map (λ c. c.items) contexts.items
+            ≡ contexts_of self.now) }
     {
         sorted_contexts(alloc, &self.rows)
     }
@@ -109,7 +111,8 @@ impl Tables {
         context: &[u8],
         rows: &[StoredRow],
     ) -> Result<(), AllocError>
-        ensures put { OnOk result (self.new ≡ with_rows context.now (map pair_of rows.now) self.old) }
+        ensures put { OnOk result (self.new ≡ with_rows context.now (map pair_of rows.now)
+            self.old) }
         ensures err { OnErr result (self.new ≡ self.old) }
     {
         self.rows = with_results(alloc, &self.rows, context, rows)?;

@@ -83,18 +83,21 @@ entry_back : (mark x : ℕ) (rest : List ℕ) → (mark == mark) ≡ true → x 
 unfolding entry_at
 entry_back mark x rest same fits stop = rw (mark_back mark (decimal x ++ rest) same (decimal_no_space x rest fits)) (number_back x rest fits stop)
 
-further_back : (xs found rest : List ℕ) → AllByRecursion (λ x. x < 2 ^ 63) xs → entries_at (length xs) 44 found (further_before xs rest) ≡ Some (found ++ xs, 41 ∷ rest)
+further_back : (xs found rest : List ℕ) → AllByRecursion (λ x. x < 2 ^ 63) xs →
+    entries_at (length xs) 44 found (further_before xs rest) ≡ Some (found ++ xs, 41 ∷ rest)
 unfolding entries_at
 further_back [] found rest h = ap (λ (l : List ℕ). Some (l, 41 ∷ rest)) (sym (append-nil found))
 further_back (x ∷ xs) found rest h =
     rw (entry_back 44 x (further_before xs rest) refl h.0 (further_stops xs rest))
     (further_back xs (found ++ x ∷ []) rest h.1 ∙ ap (λ (l : List ℕ). Some (l, 41 ∷ rest)) (append_assoc found (x ∷ []) xs))
 
-entries_back : (x : ℕ) (xs rest : List ℕ) → AllByRecursion (λ y. y < 2 ^ 63) (x ∷ xs) → entries_at (length (x ∷ xs)) 40 [] (40 ∷ (decimal x ++ further_before xs rest)) ≡ Some (x ∷ xs, 41 ∷ rest)
+entries_back : (x : ℕ) (xs rest : List ℕ) → AllByRecursion (λ y. y < 2 ^ 63) (x ∷ xs) →
+    entries_at (length (x ∷ xs)) 40 [] (40 ∷ (decimal x ++ further_before xs rest)) ≡ Some (x ∷ xs, 41 ∷ rest)
 unfolding entries_at
 entries_back x xs rest h = rw (entry_back 40 x (further_before xs rest) refl h.0 (further_stops xs rest)) (further_back xs (x ∷ []) rest h.1)
 
-derivative_back : (dims : ℕ) (xs rest : List ℕ) → (length xs ≡ 0) ⊎ (length xs ≡ dims) → AllByRecursion (λ x. x < 2 ^ 63) xs → mark_at 39 rest ≡ None → NoSpace rest →
+derivative_back : (dims : ℕ) (xs rest : List ℕ) → (length xs ≡ 0) ⊎ (length xs ≡ dims) →
+    AllByRecursion (λ x. x < 2 ^ 63) xs → mark_at 39 rest ≡ None → NoSpace rest →
     derivative_at dims (derivative_before xs rest) ≡ Some (xs, rest)
 unfolding derivative_at
 derivative_back dims [] rest long h other stop = rw other refl
@@ -129,7 +132,9 @@ factors_stop : (fs : List WrittenFactor) (rest : List ℕ) → Stops rest → St
 factors_stop [] rest h = h
 factors_stop (f ∷ fs) rest h = (refl, refl)
 
-factors_back : (n dims : ℕ) (found fs : List WrittenFactor) (f : WrittenFactor) (rest : List ℕ) → length fs < n → AllByRecursion (IsWritableFactor dims) (f ∷ fs) → Stops rest → mark_at 42 rest ≡ None →
+factors_back : (n dims : ℕ) (found fs : List WrittenFactor) (f : WrittenFactor) (rest : List ℕ) →
+    length fs < n → AllByRecursion (IsWritableFactor dims) (f ∷ fs) → Stops rest →
+    mark_at 42 rest ≡ None →
     factors_at n dims found (factor_before f (factors_before fs rest)) ≡ Some (found ++ f ∷ fs, rest)
 unfolding factors_at
 factors_back zero dims found fs f rest long w stop other = absurd (omega (arith, long))
@@ -234,7 +239,8 @@ terms_longer (t ∷ ts) = omega (arith, term_longer t (terms_text ts), terms_lon
 not_zero : (n m : ℕ) → m < n → (n == 0) ≡ false
 not_zero n m h = let above : 0 < n = omega (arith, h) in grind (arith, nat_tests)
 
-terms_back : (n dims : ℕ) (found ts : List WrittenTerm) → length ts < n → AllByRecursion (IsWritable dims) ts → terms_at n dims found (terms_text ts) ≡ Some (found ++ ts)
+terms_back : (n dims : ℕ) (found ts : List WrittenTerm) → length ts < n →
+    AllByRecursion (IsWritable dims) ts → terms_at n dims found (terms_text ts) ≡ Some (found ++ ts)
 unfolding terms_at
 terms_back zero dims found ts long w = absurd (omega (arith, long))
 terms_back (suc n) dims found [] long w = ap (λ (l : List WrittenTerm). Some l) (sym (append-nil found))
@@ -264,7 +270,8 @@ derivative_clear : (xs rest : List ℕ) → AllByRecursion (λ x. x < 2 ^ 63) xs
 derivative_clear [] rest small h = h
 derivative_clear (x ∷ xs) rest small h = (refl, (refl, no_spaces-append (decimal x) (further_before xs rest) (decimal_no_spaces x small.0) (further_clear xs rest small.1 h)))
 
-factors_clear : (dims : ℕ) (fs : List WrittenFactor) (rest : List ℕ) → AllByRecursion (IsWritableFactor dims) fs → NoSpaces rest → NoSpaces (factors_before fs rest)
+factors_clear : (dims : ℕ) (fs : List WrittenFactor) (rest : List ℕ) →
+    AllByRecursion (IsWritableFactor dims) fs → NoSpaces rest → NoSpaces (factors_before fs rest)
 factors_clear dims [] rest w h = h
 factors_clear dims (f ∷ fs) rest w h =
     let more = factors_before fs rest in

@@ -18,7 +18,8 @@ pub entries_over : (n i mark : ℕ) (found text : List ℕ) → n ≤ i → entr
 unfolding entries_at
 entries_over n i mark found text le = rw (rounds_over n i le) refl
 
-pub entries_step : (n i mark : ℕ) (found text : List ℕ) → i < n → entries_at (n - i) mark found text ≡ (entry_at mark text >>= λ x. entries_at (n - (i + 1)) 44 (found ++ x.0 ∷ []) x.1)
+pub entries_step : (n i mark : ℕ) (found text : List ℕ) → i < n →
+    entries_at (n - i) mark found text ≡ (entry_at mark text >>= λ x. entries_at (n - (i + 1)) 44 (found ++ x.0 ∷ []) x.1)
 unfolding entries_at
 entries_step n i mark found text lt = rw (rounds_left n i lt) refl
 
@@ -26,7 +27,8 @@ pub factors_over : (n i dims : ℕ) (found : List WrittenFactor) (text : List �
 unfolding factors_at
 factors_over n i dims found text le = rw (rounds_over n i le) refl
 
-pub factors_step : (n i dims : ℕ) (found : List WrittenFactor) (text : List ℕ) → i < n → factors_at (n - i) dims found text ≡ (factor_at dims text >>= λ f. if_there (mark_at 42 f.1) (factors_at (n - (i + 1)) dims (found ++ f.0 ∷ [])) (Some (found ++ f.0 ∷ [], f.1)))
+pub factors_step : (n i dims : ℕ) (found : List WrittenFactor) (text : List ℕ) → i < n →
+    factors_at (n - i) dims found text ≡ (factor_at dims text >>= λ f. if_there (mark_at 42 f.1) (factors_at (n - (i + 1)) dims (found ++ f.0 ∷ [])) (Some (found ++ f.0 ∷ [], f.1)))
 unfolding factors_at
 factors_step n i dims found text lt = rw (rounds_left n i lt) refl
 
@@ -34,7 +36,8 @@ pub terms_over : (n i dims : ℕ) (found : List WrittenTerm) (text : List ℕ) �
 unfolding terms_at
 terms_over n i dims found text le = rw (rounds_over n i le) refl
 
-pub terms_step : (n i dims : ℕ) (found : List WrittenTerm) (text : List ℕ) → i < n → terms_at (n - i) dims found text ≡ (if length text == 0 then Some found else (sign_at text >>= λ sign. term_at dims sign.0 sign.1 >>= λ t. terms_at (n - (i + 1)) dims (found ++ t.0 ∷ []) t.1))
+pub terms_step : (n i dims : ℕ) (found : List WrittenTerm) (text : List ℕ) → i < n →
+    terms_at (n - i) dims found text ≡ (if length text == 0 then Some found else (sign_at text >>= λ sign. term_at dims sign.0 sign.1 >>= λ t. terms_at (n - (i + 1)) dims (found ++ t.0 ∷ []) t.1))
 unfolding terms_at
 terms_step n i dims found text lt = rw (rounds_left n i lt) refl
 

@@ -1,5 +1,6 @@
 -- What is true of the terms that a right side is read as.
---   IsFactorWritten dims f == the derivative of f has no entry or one for each dimension, its power is not 0
+--   IsFactorWritten dims f == the derivative of f has no entry or one for each dimension, its power
+--       is not 0
 --   IsTermWritten dims t == so is each factor of t, and the denominator of its coefficient is not 0
 use Rattle.std.proofs.Common.{◌≡◌, ℕ, zero, suc, ◌+◌, ◌<◌, Bool, true, false, true≢false, List, [], ◌∷◌, ◌++◌, length, Option, None, Some, refl, sym, subst, ap, arith}
 use Rattle.std.proofs.Math.Logic.{inl, inr}
@@ -43,7 +44,8 @@ unfolding or_else
 same_some a b h = ap (or_else a) h
 
 -- what stands behind an optional mark is read there, or the mark is not there
-pub there_or : {A : Type 0} (o : Option (List ℕ)) (there : List ℕ → A) (without a : A) → if_there o there without ≡ a → ((rest : List ℕ) × (there rest ≡ a)) ⊎ (without ≡ a)
+pub there_or : {A : Type 0} (o : Option (List ℕ)) (there : List ℕ → A) (without a : A) →
+    if_there o there without ≡ a → ((rest : List ℕ) × (there rest ≡ a)) ⊎ (without ≡ a)
 there_or None there without a h = inr h
 there_or (Some rest) there without a h = inl (rest, h)
 
@@ -84,7 +86,9 @@ entries_length (suc n) mark found text r h =
     let rest = entries_length n 44 (found ++ b.0.0 ∷ []) b.0.1 r b.2 in
     omega (arith, rest, length-append found (b.0.0 ∷ []))
 
-closed : (dims : ℕ) (rest : List ℕ) (r : List ℕ × List ℕ) → (entries_at dims 40 [] rest >>= (λ entries. mark_at 41 entries.1 >>= (λ close_rest. Some (entries.0, close_rest)))) ≡ Some r → length r.0 ≡ dims
+closed : (dims : ℕ) (rest : List ℕ) (r : List ℕ × List ℕ) →
+    (entries_at dims 40 [] rest >>= (λ entries. mark_at 41 entries.1 >>= (λ close_rest. Some (entries.0, close_rest)))) ≡ Some r →
+    length r.0 ≡ dims
 closed dims rest r h =
     let b = bind_some (entries_at dims 40 [] rest) _ r h in
     let c = bind_some (mark_at 41 b.0.1) _ r b.2 in
@@ -109,7 +113,9 @@ factor_written dims text r h =
     let is : IsFactorWritten dims made = record { entries = derivative_fits dims n.0.1 d.0 d.1; power = nonzero_after_above 94 d.0.1 p.0 p.1 } in
     subst (λ x. IsFactorWritten dims x.0) (same_some (made, p.0.1) r p.2) is
 
-factors_written : (n dims : ℕ) (found : List WrittenFactor) (text : List ℕ) (r : List WrittenFactor × List ℕ) → AllByRecursion (IsFactorWritten dims) found → factors_at n dims found text ≡ Some r → AllByRecursion (IsFactorWritten dims) r.0
+factors_written : (n dims : ℕ) (found : List WrittenFactor) (text : List ℕ) (r : List WrittenFactor × List ℕ) →
+    AllByRecursion (IsFactorWritten dims) found → factors_at n dims found text ≡ Some r →
+    AllByRecursion (IsFactorWritten dims) r.0
 unfolding factors_at
 factors_written zero dims found text r so h = none_some r h
 factors_written (suc n) dims found text r so h =
@@ -136,14 +142,17 @@ bare_written dims negative text r h =
     let is : IsTermWritten dims made = record { den_above = omega arith; factors = factors_written (length text) dims [] text f.0 tt f.1 } in
     subst (λ x. IsTermWritten dims x.0) (same_some (made, f.0.1) r f.2) is
 
-factors_behind : (dims : ℕ) (text : List ℕ) (r : List WrittenFactor × List ℕ) → if_there (mark_at 42 text) (λ rest. factors_at (length rest) dims [] rest) (Some ([], text)) ≡ Some r → AllByRecursion (IsFactorWritten dims) r.0
+factors_behind : (dims : ℕ) (text : List ℕ) (r : List WrittenFactor × List ℕ) →
+    if_there (mark_at 42 text) (λ rest. factors_at (length rest) dims [] rest) (Some ([], text)) ≡ Some r →
+    AllByRecursion (IsFactorWritten dims) r.0
 factors_behind dims text r h =
     elim (there_or (mark_at 42 text) (λ rest. factors_at (length rest) dims [] rest) (Some ([], text)) (Some r) h) [
       | inl p ↦ factors_written (length p.0) dims [] p.0 r tt p.1
       | inr p ↦ subst (λ x. AllByRecursion (IsFactorWritten dims) x.0) (same_some ([], text) r p) tt
     ]
 
-with_coefficient_written : (dims : ℕ) (negative : Bool) (text : List ℕ) (r : WrittenTerm × List ℕ) → with_coefficient_at dims negative text ≡ Some r → IsTermWritten dims r.0
+with_coefficient_written : (dims : ℕ) (negative : Bool) (text : List ℕ) (r : WrittenTerm × List ℕ) →
+    with_coefficient_at dims negative text ≡ Some r → IsTermWritten dims r.0
 unfolding with_coefficient_at
 with_coefficient_written dims negative text r h =
     let c = bind_some (coefficient_at negative text) _ r h in
@@ -160,7 +169,9 @@ term_written dims negative text r h =
       | inr p ↦ with_coefficient_written dims negative text r p.1
     ]
 
-terms_written : (n dims : ℕ) (found : List WrittenTerm) (text : List ℕ) (r : List WrittenTerm) → AllByRecursion (IsTermWritten dims) found → terms_at n dims found text ≡ Some r → AllByRecursion (IsTermWritten dims) r
+terms_written : (n dims : ℕ) (found : List WrittenTerm) (text : List ℕ) (r : List WrittenTerm) →
+    AllByRecursion (IsTermWritten dims) found → terms_at n dims found text ≡ Some r →
+    AllByRecursion (IsTermWritten dims) r
 unfolding terms_at
 terms_written zero dims found text r so h = none_some r h
 terms_written (suc n) dims found text r so h =

@@ -1,5 +1,7 @@
 -- How the answer of a function that allocates stands to a reading.
---   Gives view result read == the result, seen by view, is what the reading gives: a refusal exactly where it gives nothing; want of memory is free
+--   Fails e read == where the error is not want of memory, nothing is read
+--   Gives view result read == the result, seen by view, is what the reading gives: a refusal
+--       exactly where it gives nothing; want of memory is free
 use Rattle.std.specs.Prelude.{Option, None, Some, Result, Ok, Err, ◌≡◌, ⊤}
 use Rattle.right_side_text.specs.declared.fault.ReadError.{ReadError}
 use Rattle.right_side_text.specs.declared.fault.ReadError.TheVariants as errors

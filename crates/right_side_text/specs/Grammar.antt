@@ -1,16 +1,28 @@
--- The right side of an equation as a text, read from the left. A text is a sum of terms; a term is a coefficient, or factors joined by `*`, or both joined by
--- `*`; a factor is a name, which may carry a derivative `'(..)` and a power `^n`. Spaces may stand between these tokens.
+-- The right side of an equation as a text, read from the left. A text is a sum of terms; a term is
+-- a coefficient, or factors joined by `*`, or both joined by `*`; a factor is a name, which may
+-- carry a derivative `'(..)` and a power `^n`. Spaces may stand between these tokens.
 --   name_at text == a name
---   entries_at n mark found text == n numbers, the first behind this mark and the others behind commas, after those found
---   derivative_at dims text == `'(` and one number for each dimension and `)`; no entries where it is not written
+--   entry_at mark text == this mark and a number
+--   entries_at n mark found text == n numbers, the first behind this mark and the others behind
+--       commas, after those found
+--   derivative_at dims text == `'(` and one number for each dimension and `)`; no entries where it
+--       is not written
 --   factor_at dims text == a name, perhaps a derivative, perhaps a power
 --   factors_at n dims found text == one to n factors joined by `*`, after those found
---   coefficient_at negative text == a whole number or a fraction, whose denominator is not 0, under this sign
---   term_at dims negative text == a coefficient, or factors, or a coefficient and `*` and factors, under this sign
+--   coefficient_at negative text == a whole number or a fraction, whose denominator is not 0, under
+--       this sign
+--   bare_at dims negative text == factors alone, under this sign
+--   with_coefficient_at dims negative text == a coefficient, and perhaps `*` and factors, under
+--       this sign
+--   term_at dims negative text == a coefficient, or factors, or a coefficient and `*` and factors,
+--       under this sign
 --   sign_at text == `+` or `-`, and whether it is `-`
---   terms_at n dims found text == at most n terms, each behind its sign, up to the end of the text, after those found
+--   terms_at n dims found text == at most n terms, each behind its sign, up to the end of the text,
+--       after those found
 --   first_at dims text == the first term, whose sign may be left out
---   right_side dims text == the terms of a whole text, none where it is empty or spaces alone; nothing where it is outside the grammar
+--   sum_at dims text == the terms of a text that is not empty
+--   right_side dims text == the terms of a whole text, none where it is empty or spaces alone;
+--       nothing where it is outside the grammar
 use Rattle.std.specs.Prelude.{ℕ, zero, suc, ◌==◌, Bool, true, false, unwrap_or, List, [], ◌∷◌, ◌++◌, length, drop, take, if◌then◌else◌, Option, None, Some}
 use Rattle.std.specs.List.{prefix_len}
 use Rattle.degree_numbers.specs.Name.{is_name, is_name_byte}
@@ -49,7 +61,8 @@ factor_at dims text = do
   power ← nonzero_after 94 entries.1
   Some (record { name = name.0; entries = entries.0; power = power.0 }, power.1)
 
-unfoldable pub factors_at : ℕ → ℕ → List WrittenFactor → List ℕ → Option (List WrittenFactor × List ℕ)
+unfoldable pub factors_at : ℕ → ℕ → List WrittenFactor → List ℕ →
+    Option (List WrittenFactor × List ℕ)
 factors_at zero dims found text = None
 factors_at (suc n) dims found text = do
   f ← factor_at dims text
@@ -75,10 +88,12 @@ with_coefficient_at dims negative text = do
   Some (record { coefficient = c.0; factors = factors.0 }, factors.1)
 
 unfoldable pub term_at : ℕ → Bool → List ℕ → Option (WrittenTerm × List ℕ)
-term_at dims negative text = if digits_len text == 0 then bare_at dims negative text else with_coefficient_at dims negative text
+term_at dims negative text = if digits_len text == 0 then bare_at dims negative text
+    else with_coefficient_at dims negative text
 
 unfoldable pub sign_at : List ℕ → Option (Bool × List ℕ)
-sign_at text = if_there (mark_at 43 text) (λ rest. Some (false, rest)) (if_there (mark_at 45 text) (λ rest. Some (true, rest)) None)
+sign_at text = if_there (mark_at 43 text) (λ rest. Some (false, rest)) (if_there (mark_at 45 text)
+    (λ rest. Some (true, rest)) None)
 
 unfoldable pub terms_at : ℕ → ℕ → List WrittenTerm → List ℕ → Option (List WrittenTerm)
 terms_at zero dims found text = None
@@ -99,4 +114,5 @@ sum_at dims text = do
   terms_at (length text) dims (first.0 ∷ []) first.1
 
 unfoldable pub right_side : ℕ → List ℕ → Option (List WrittenTerm)
-right_side dims text = if length (skip text) == 0 then Some [] else (if is_trimmed text then sum_at dims text else None)
+right_side dims text = if length (skip text) == 0 then Some []
+    else (if is_trimmed text then sum_at dims text else None)

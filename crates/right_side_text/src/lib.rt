@@ -1,4 +1,5 @@
-//! The right sides of equations, as they are written.
+//! The right sides of equations, as they are written. A name is a name here: whether it is that of
+//! a parameter, a noise or an unknown is asked where the document is read.
 #![tactic(auto)]
 
 mod denominator;

@@ -255,8 +255,9 @@ fn sum_of(alloc: Global, dims: usize, text: &[u8]) -> Result<Items<WrittenTerm>,
     terms_of(alloc, dims, text.len(), found, rest)
 }
 
-/// The terms of a right side, as they are written; none where the text is empty or spaces alone. Spaces may stand between the tokens, and a derivative has
-/// `dims` entries. The refusals are Outside where the text is outside the grammar, and Memory.
+/// The terms of a right side, as they are written; none where the text is empty or spaces alone.
+/// Spaces may stand between the tokens, and a derivative has `dims` entries. The refusals are
+/// Outside where the text is outside the grammar, and Memory.
 #[tactic(auto, unfolding(crate::specs::Grammar::right_side))]
 pub fn read_right_side(
     alloc: Global,

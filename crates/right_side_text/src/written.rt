@@ -3,7 +3,8 @@ use crate::denominator::Denominator;
 use degree_numbers::Name;
 use sqlite_items::Items;
 
-/// A factor: a name, the entries of its derivative (none where none is written), and its power, which is not 0. A written number past 2^63-1 counts as 2^63-1.
+/// A factor: a name, the entries of its derivative (none where none is written), and its power,
+/// which is not 0. A written number past 2^63-1 counts as 2^63-1.
 #[derive(Debug, Drop)]
 pub struct WrittenFactor {
     pub name: Name,

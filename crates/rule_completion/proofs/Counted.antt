@@ -37,7 +37,9 @@ length-insert_all-most c ks [] = omega arith
 length-insert_all-most c ks (n ∷ ns) = omega (arith, length-insert_key-most c ks n, length-insert_all-most c (insert_key c ks n) ns)
 
 -- a sorted list is no longer than a list, in any order, that has its members
-length-among : {K : Type 0} (c : K → K → Ordering) → IsTotalOrder c → IsAntisymmetric c → (xs ys : List K) → IsStrictlySortedBy c xs → ((n : K) → IsIn n xs → IsIn n ys) → length xs ≤ length ys
+length-among : {K : Type 0} (c : K → K → Ordering) → IsTotalOrder c → IsAntisymmetric c →
+    (xs ys : List K) → IsStrictlySortedBy c xs → ((n : K) → IsIn n xs → IsIn n ys) →
+    length xs ≤ length ys
 unfolding IsStrictlySortedBy
 length-among c o exact xs ys s f =
     let few = length-insert_all-most c [] ys in

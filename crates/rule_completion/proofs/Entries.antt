@@ -159,7 +159,8 @@ small_labels : (most : ℕ) (rule : Rule) → IsSmallRule most rule → HasSmall
 small_labels most rule small k es h = subst (AreSmallLabels most) h.3.2 (labels_from most h.3.0.edges (small h.0 h.1 h.3.0 h.3.1))
 
 -- the next stage
-pub next_small : (eq : Equation) (rule next : Rule) (most : ℕ) → (HasTooLargeTree eq rule → ⊥) → IsSmallRule most rule → IsNextStage eq rule next → IsSmallRule (most + 64) next
+pub next_small : (eq : Equation) (rule next : Rule) (most : ℕ) → (HasTooLargeTree eq rule → ⊥) →
+    IsSmallRule most rule → IsNextStage eq rule next → IsSmallRule (most + 64) next
 next_small eq rule next most fit small h row i n j =
     let own = small_labels most rule small in
     let found : AreSmallLabels (most + 64) (labels n) =

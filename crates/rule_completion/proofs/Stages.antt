@@ -63,7 +63,9 @@ module _ (eq : Equation) (equation : IsEquation eq) where
   pub next_other : (rule next : Rule) → IsNextStage eq rule next → (node_count next ≡ node_count rule → ⊥) → IsNextStage eq rule rule → ⊥
   next_other rule next h more same = more (ap node_count (next_unique rule next rule h same))
 
-  pub goes_on : (rule next : Rule) → IsNextStage eq rule next → node_count next ≤ 2000 → (node_count next ≡ node_count rule → ⊥) → (HasTooManyTrees eq rule → ⊥) → (HasTooLargeTree eq rule → ⊥) → GoesOn eq rule
+  pub goes_on : (rule next : Rule) → IsNextStage eq rule next → node_count next ≤ 2000 →
+      (node_count next ≡ node_count rule → ⊥) → (HasTooManyTrees eq rule → ⊥) →
+      (HasTooLargeTree eq rule → ⊥) → GoesOn eq rule
   goes_on rule next h count more few fit = record { listable = record { few = few; fit = fit }; small = not_too_large eq rule next h count; other = next_other rule next h more }
 
   module _ (base : Rule) where

@@ -57,14 +57,17 @@ one_fault eq rule s i j RuleTooLarge TooManyTrees h k = absurd (h.1.few k.1)
 one_fault eq rule s i j RuleTooLarge TreeTooLarge h k = absurd (h.1.fit k.2)
 one_fault eq rule s i j RuleTooLarge RuleTooLarge h k = (h.0 ∙ sym k.0, refl)
 
-none_of : (eq : Equation) (rule : Rule) (s j : ℕ) (f : StageFault) → IsNextStage eq rule rule → IsListable eq rule → node_count rule ≤ 2000 → IsFaultOf eq rule s j f → ⊥
+none_of : (eq : Equation) (rule : Rule) (s j : ℕ) (f : StageFault) → IsNextStage eq rule rule →
+    IsListable eq rule → node_count rule ≤ 2000 → IsFaultOf eq rule s j f → ⊥
 none_of eq rule s j TooManyTrees fixed listable few h = listable.few h.1
 none_of eq rule s j TreeTooLarge fixed listable few h = listable.fit h.2
 none_of eq rule s j RuleTooLarge fixed listable few h = not_too_large eq rule rule fixed few h.2
 
 module _ (eq : Equation) (equation : IsEquation eq) (base : Rule) where
   -- no two stages that are reached are the last
-  last_stage : (i j : ℕ) (rule other : Rule) → IsReached eq base i rule → IsReached eq base j other → (GoesOn eq rule → ⊥) → (GoesOn eq other → ⊥) → (i ≡ j) × (rule ≡ other)
+  last_stage : (i j : ℕ) (rule other : Rule) → IsReached eq base i rule →
+      IsReached eq base j other → (GoesOn eq rule → ⊥) → (GoesOn eq other → ⊥) →
+      (i ≡ j) × (rule ≡ other)
   last_stage i j rule other h k stop halt =
       elim (compared i j) [
         | inl lt ↦ absurd (stop (k.before i rule lt h.stage))
@@ -94,7 +97,9 @@ module _ (eq : Equation) (equation : IsEquation eq) (base : Rule) where
       let there = subst (λ (s : ℕ). IsFaultOf eq b.rule s i f) last.0 (subst (λ (r : Rule). IsFaultOf eq r a.stage i f) last.1 a.fault) in
       one_fault eq b.rule b.stage i j f g there b.fault
 
-  pub completed_has_none : (rule : Rule) (i j : ℕ) (f : StageFault) → IsReached eq base i rule → IsNextStage eq rule rule → IsListable eq rule → node_count rule ≤ 2000 → IsStageFault eq base j f → ⊥
+  pub completed_has_none : (rule : Rule) (i j : ℕ) (f : StageFault) → IsReached eq base i rule →
+      IsNextStage eq rule rule → IsListable eq rule → node_count rule ≤ 2000 →
+      IsStageFault eq base j f → ⊥
   completed_has_none rule i j f reached fixed listable few h =
       let b = fault_of eq base j f h in
       let last = last_stage i b.stage rule b.rule reached b.reached (λ on. on.other fixed) (stuck eq b.rule b.stage j f b.fault) in

@@ -22,7 +22,9 @@ use Rattle.rule_steps.specs.Sums.{nodes_of_kernel}
 use Rattle.rule_steps.proofs.Rows.{nodes_of_row, from_kernel_row}
 
 -- a sorted list is another that holds it, and is no longer
-pub equal-within : {K : Type 0} (c : K → K → Ordering) → IsTotalOrder c → IsAntisymmetric c → (xs ys : List K) → IsStrictlySortedBy c xs → IsStrictlySortedBy c ys → ((n : K) → IsIn n xs → IsIn n ys) → length ys ≤ length xs → xs ≡ ys
+pub equal-within : {K : Type 0} (c : K → K → Ordering) → IsTotalOrder c → IsAntisymmetric c →
+    (xs ys : List K) → IsStrictlySortedBy c xs → IsStrictlySortedBy c ys →
+    ((n : K) → IsIn n xs → IsIn n ys) → length ys ≤ length xs → xs ≡ ys
 unfolding IsStrictlySortedBy
 equal-within c o exact [] [] s r f short = refl
 equal-within c o exact [] (y ∷ ys) s r f short = absurd (omega (arith, short))
@@ -66,7 +68,9 @@ AreWithin (r ∷ rs) (s ∷ ss) = (r.kernel ≡ s.kernel) × AreNodesWithin r s 
 abbrev pub AreSorted : List RuleRow → Type 0
 AreSorted rows = (row : RuleRow) → IsIn row rows → IsStrictlySortedBy node_order row.nodes
 
-rows_within : (rs ss : List RuleRow) → map (λ row. row.kernel) rs ≡ map (λ row. row.kernel) ss → ((r s : RuleRow) → IsIn r rs → IsIn s ss → r.kernel ≡ s.kernel → AreNodesWithin r s) → AreWithin rs ss
+rows_within : (rs ss : List RuleRow) → map (λ row. row.kernel) rs ≡ map (λ row. row.kernel) ss →
+    ((r s : RuleRow) → IsIn r rs → IsIn s ss → r.kernel ≡ s.kernel → AreNodesWithin r s) →
+    AreWithin rs ss
 rows_within [] [] h f = tt
 rows_within [] (s ∷ ss) h f = absurd cc
 rows_within (r ∷ rs) [] h f = absurd cc

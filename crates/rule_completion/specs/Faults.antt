@@ -1,4 +1,5 @@
 -- What stands in the way of a stage.
+-- Working notions of the code and of proofs, which no contract of a public call names:
 --   IsListingFault eq rule what == this is what stands in the way of the listing of the rule
 use Rattle.equations.specs.declared.equation.Equation.{Equation}
 use Rattle.normal_rule.specs.declared.rule.Rule.{Rule}

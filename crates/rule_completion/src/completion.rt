@@ -45,10 +45,13 @@ fn rule_of<'r>(base: &'r Rule, reached: &'r Option<Rule>) -> &'r Rule
     }
 }
 
-/// The completion of the normal rule of an equation (after Bruned, Hairer and Zambotti), for which the inequality of regularities holds: stage 0 is the rule, and
-/// each stage after it the least normal rule that holds the one before and all that contractions of its listed trees make. Fails with the first stage, from 0, that
-/// is too large: the stage whose listing is refused, or the stage, from 1, whose rule has more than 2,000 node types; and for want of memory. The node types of the
-/// base are not counted: a base of more than 2,000, which `normal_rule` never answers, is listed, and where that is not refused, stage 1 is too large.
+/// The completion of the normal rule of an equation (after Bruned, Hairer and Zambotti), for which
+/// the inequality of regularities holds: stage 0 is the rule, and each stage after it the least
+/// normal rule that holds the one before and all that contractions of its listed trees make. Fails
+/// with the first stage, from 0, that is too large: the stage whose listing is refused, or the
+/// stage, from 1, whose rule has more than 2,000 node types (`MOST_NODE_TYPES`); and for want of
+/// memory. The node types of the base are not counted: a base of more than 2,000, which
+/// `normal_rule` never answers, is listed, and where that is not refused, stage 1 is too large.
 pub fn complete<'a>(
     alloc: Global,
     eq: &Equation,
@@ -64,14 +67,19 @@ pub fn complete<'a>(
     ensures rule { IfOk result (λ c. IsRule eq.now c.rule) }
     ensures small { IfOk result (λ c. node_count c.rule ≤ 2000) }
     ensures known { IfOk result (λ c. All (λ id. id.0 < length pool.new.trees) c.listing.trees) }
-    ensures trees { IfOk result (λ c. IsWholeList eq.now c.rule (trees_of pool.new c.listing.trees)) }
-    ensures known_zero { IfOk result (λ c. (id : TreeId) → c.listing.zero ≡ Some id → id.0 < length pool.new.trees) }
-    ensures zero { IfOk result (λ c. IsFirstZero eq.now c.rule (option_map (λ id. tree_at pool.new id.0) c.listing.zero)) }
+    ensures trees { IfOk result (λ c. IsWholeList eq.now c.rule
+        (trees_of pool.new c.listing.trees)) }
+    ensures known_zero { IfOk result (λ c. (id : TreeId) → c.listing.zero ≡ Some id →
+        id.0 < length pool.new.trees) }
+    ensures zero { IfOk result (λ c. IsFirstZero eq.now c.rule
+        (option_map (λ id. tree_at pool.new id.0) c.listing.zero)) }
     ensures few { IfOk result (λ c. HasTooManyTrees eq.now c.rule → ⊥) }
     ensures fit { IfOk result (λ c. HasTooLargeTree eq.now c.rule → ⊥) }
     ensures gap { IfOk result (λ c. (g : ℤ) → IsGap eq.now base.now g → IsGap eq.now c.rule g) }
-    ensures closed { IfOk result (λ c. (t : Plain) → IsListed eq.now c.rule t → IsClosedUnderCutting eq.now c.rule t) }
-    ensures refused { IfErr result (λ e. (j : ℕ) (what : StageFault) → e ≡ StageRefusal.Stage j what → IsStageFault eq.now base.now j what) }
+    ensures closed { IfOk result (λ c. (t : Plain) → IsListed eq.now c.rule t →
+        IsClosedUnderCutting eq.now c.rule t) }
+    ensures refused { IfErr result (λ e. (j : ℕ) (what : StageFault) →
+        e ≡ StageRefusal.Stage j what → IsStageFault eq.now base.now j what) }
     ensures grown { IsGrown pool.old pool.new }
 {
     normal_rule_is_rule(eq, base);

@@ -1,4 +1,5 @@
-//! The completion of a rule.
+//! The completion of a rule: the first stage that equals its successor, with its listed trees. The
+//! listing and the steps between stages don't know each other; here they meet.
 #![tactic(auto)]
 
 mod completion;

@@ -7,11 +7,13 @@ use std::alloc::AllocError;
 /// What is too large at a stage.
 #[derive(Clone, Copy, Debug, PartialEq, Eq)]
 pub enum StageFault {
-    /// More than 4,000 listed trees of the stage have at most 24 edges and a decoration sum of at most 64.
+    /// More than 4,000 listed trees (`MOST_LISTED_TREES`) of the stage have at most 24 edges
+    /// (`MOST_EDGES`) and a decoration sum of at most 64 (`MOST_LISTED_DECORATIONS`).
     TooManyTrees,
-    /// Some tree that would be listed, or would be of degree 0, has more than 24 edges or a decoration sum of more than 64.
+    /// Some tree that would be listed, or would be of degree 0, has more than 24 edges
+    /// (`MOST_EDGES`) or a decoration sum of more than 64 (`MOST_LISTED_DECORATIONS`).
     TreeTooLarge,
-    /// The rule of the stage has more than 2,000 node types.
+    /// The rule of the stage has more than 2,000 node types (`MOST_NODE_TYPES`).
     RuleTooLarge,
 }
 

@@ -57,13 +57,18 @@ pub(crate) fn list_stage(
     requires rule { IsRule eq.now rule.now }
     requires subcritical { IsSubcritical eq.now rule.now }
     requires types { pool.old.types ≡ eq.now.types }
-    ensures known { IfOk result (λ listing. All (λ id. id.0 < length pool.new.trees) listing.trees) }
-    ensures trees { IfOk result (λ listing. IsWholeList eq.now rule.now (trees_of pool.new listing.trees)) }
-    ensures known_zero { IfOk result (λ listing. (id : TreeId) → listing.zero ≡ Some id → id.0 < length pool.new.trees) }
-    ensures zero { IfOk result (λ listing. IsFirstZero eq.now rule.now (option_map (λ id. tree_at pool.new id.0) listing.zero)) }
+    ensures known { IfOk result (λ listing. All (λ id. id.0 < length pool.new.trees)
+        listing.trees) }
+    ensures trees { IfOk result (λ listing. IsWholeList eq.now rule.now
+        (trees_of pool.new listing.trees)) }
+    ensures known_zero { IfOk result (λ listing. (id : TreeId) → listing.zero ≡ Some id →
+        id.0 < length pool.new.trees) }
+    ensures zero { IfOk result (λ listing. IsFirstZero eq.now rule.now
+        (option_map (λ id. tree_at pool.new id.0) listing.zero)) }
     ensures few { IfOk result (λ listing. HasTooManyTrees eq.now rule.now → ⊥) }
     ensures fit { IfOk result (λ listing. HasTooLargeTree eq.now rule.now → ⊥) }
-    ensures refused { IfErr result (λ e. (j : ℕ) (what : StageFault) → e ≡ Stage j what → (j ≡ stage) × IsListingFault eq.now rule.now what) }
+    ensures refused { IfErr result (λ e. (j : ℕ) (what : StageFault) → e ≡ Stage j what →
+        (j ≡ stage) × IsListingFault eq.now rule.now what) }
     ensures grown { IsGrown pool.old pool.new }
 {
     match list_trees(alloc, eq, rule, pool) {
@@ -98,7 +103,8 @@ pub(crate) fn stage_after(
     requires listed { IsWholeList eq.now rule.now (trees_of pool.now trees.now) }
     ensures next { IfOk result (λ next. IsNextStage eq.now rule.now next) }
     ensures few { IfOk result (λ next. node_count next ≤ 2000) }
-    ensures refused { IfErr result (λ e. (j : ℕ) (what : StageFault) → e ≡ Stage j what → (j ≡ suc stage) × (what ≡ RuleTooLarge) × HasTooLargeNext eq.now rule.now) }
+    ensures refused { IfErr result (λ e. (j : ℕ) (what : StageFault) → e ≡ Stage j what →
+        (j ≡ suc stage) × (what ≡ RuleTooLarge) × HasTooLargeNext eq.now rule.now) }
 {
     match next_stage(alloc, eq, rule, pool, trees) {
         Ok(next) => Ok(next),

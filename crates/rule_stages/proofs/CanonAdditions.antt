@@ -15,7 +15,8 @@ use Rattle.rule_stages.proofs.Parts.{additions-sorted}
 abbrev over : Planted → Plain → Plain
 over e t = graft e.kind e.p e.child t
 
-root-with-at : (e f : Planted) (t : Plain) (a : Bool) → is_gt (planted_order e f) ≡ a → root_of (with_edge e t) ≡ root_of t → root_of (with_edge e (over f t)) ≡ root_of t
+root-with-at : (e f : Planted) (t : Plain) (a : Bool) → is_gt (planted_order e f) ≡ a →
+    root_of (with_edge e t) ≡ root_of t → root_of (with_edge e (over f t)) ≡ root_of t
 root-with-at e f t true h ih = rw h ih
 root-with-at e f t false h ih = rw h refl
 
@@ -31,7 +32,8 @@ addition-canon : (ty : Types) (rule : Rule) (k : ℕ) (t : Plain) (rs : List Edg
 addition-canon ty rule k t rs h =
     (h.0, subst (λ (es : List EdgeLabel). IsInRule ty rule k (join h.0 es)) (sym (node_type-canon t)) h.1, subst (λ (n : List ℕ). IsRaised n h.0 rs) (sym (root-canon t)) h.2)
 
-exchanged : (at above u v others : List EdgeLabel) → IsInLabelOrder others → join u (join v (join at (join above others))) ≡ join at (join above (join u (join v others)))
+exchanged : (at above u v others : List EdgeLabel) → IsInLabelOrder others →
+    join u (join v (join at (join above others))) ≡ join at (join above (join u (join v others)))
 exchanged at above u v others h =
     same_labels (join u (join v (join at (join above others)))) (join at (join above (join u (join v others))))
     (join-sorted u _ (join-sorted v _ (join-sorted at _ (join-sorted above others h)))) (join-sorted at _ (join-sorted above _ (join-sorted u _ (join-sorted v others h))))
@@ -47,7 +49,9 @@ exchanged at above u v others h =
       count-join z v others,
     ))
 
-additions-with-at : (ty : Types) (rule : Rule) (e f : Planted) (t : Plain) (at above rs : List EdgeLabel) (a : Bool) → is_gt (planted_order e f) ≡ a → IsAddition ty rule e.kind e.child at → AreAdditionsAbove ty rule e.child above →
+additions-with-at : (ty : Types) (rule : Rule) (e f : Planted) (t : Plain) (at above rs : List EdgeLabel) (a : Bool) →
+    is_gt (planted_order e f) ≡ a → IsAddition ty rule e.kind e.child at →
+    AreAdditionsAbove ty rule e.child above →
     AreAdditionsAbove ty rule (over f t) rs → ((others : List EdgeLabel) → AreAdditionsAbove ty rule t others → AreAdditionsAbove ty rule (with_edge e t) (join at (join above others))) →
     AreAdditionsAbove ty rule (with_edge e (over f t)) (join at (join above rs))
 additions-with-at ty rule e f t at above rs true gt add up h ih =
@@ -57,7 +61,9 @@ additions-with-at ty rule e f t at above rs true gt add up h ih =
     rw gt (h.0, h.1, join at (join above h.2), h.3, h.4, rest, same)
 additions-with-at ty rule e f t at above rs false gt add up h ih = rw gt (at, above, rs, add, up, h, refl)
 
-additions-with : (ty : Types) (rule : Rule) (e : Planted) (t : Plain) (at above rs : List EdgeLabel) → IsAddition ty rule e.kind e.child at → AreAdditionsAbove ty rule e.child above → AreAdditionsAbove ty rule t rs →
+additions-with : (ty : Types) (rule : Rule) (e : Planted) (t : Plain) (at above rs : List EdgeLabel) →
+    IsAddition ty rule e.kind e.child at → AreAdditionsAbove ty rule e.child above →
+    AreAdditionsAbove ty rule t rs →
     AreAdditionsAbove ty rule (with_edge e t) (join at (join above rs))
 additions-with ty rule e (bare n) at above rs add up h = (at, above, rs, add, up, h, refl)
 additions-with ty rule e (graft k p c t) at above rs add up h =

@@ -80,7 +80,8 @@ idle : (is b : Bool) (x : ℕ) → ((is || (false && b)) ≡ true) → is ≡ tr
 idle true b x h = refl
 idle false b x h = absurd cc
 
-node_type-untouched : (ty : Types) (m : CutTree) → HasMultis ty.dims m → HasTypes ty (tree_of m) → leaves m ≡ false → fits false m ≡ true → node_type_of (contracted m) ≡ node_type_of (tree_of m)
+node_type-untouched : (ty : Types) (m : CutTree) → HasMultis ty.dims m → HasTypes ty (tree_of m) →
+    leaves m ≡ false → fits false m ≡ true → node_type_of (contracted m) ≡ node_type_of (tree_of m)
 node_type-untouched ty (node a l) multis types h f = refl
 node_type-untouched ty (edge true s k p c r) multis types h f = absurd cc
 node_type-untouched ty (edge false s k p c r) multis types h f =
@@ -96,7 +97,9 @@ no_leaves (edge b s k p c r) h none = put-some (k, p) (node_type_of (tree_of r))
 
 module _ (eq : Equation) (rule : Rule) (equation : IsEquation eq) (is_rule : IsRule eq rule) (fixed : IsNextStage eq rule rule) where
   -- the node type that a listed component is contracted to is one of the rule
-  contracted-in_row : (k : ℕ) (m : CutTree) → IsInKernelRow rule k (node_type_of (tree_of m)) → ConformsAbove eq.types rule (tree_of m) → IsListed eq rule (canon (root_component m)) → IsInKernelRow rule k (node_type_of (contracted m))
+  contracted-in_row : (k : ℕ) (m : CutTree) → IsInKernelRow rule k (node_type_of (tree_of m)) →
+      ConformsAbove eq.types rule (tree_of m) → IsListed eq rule (canon (root_component m)) →
+      IsInKernelRow rule k (node_type_of (contracted m))
   contracted-in_row k m allowed conforms listed =
       let es = node_type_of (contracted m) in
       let made : IsMade eq rule k es = record {
@@ -107,7 +110,9 @@ module _ (eq : Equation) (rule : Rule) (equation : IsEquation eq) (is_rule : IsR
       } in
       fixed.whole k es (inr (es, made, sub_refl es))
 
-  contracted-allowed : (k : ℕ) (m : CutTree) → IsAllowedAbove eq.types rule k (tree_of m) → ConformsAbove eq.types rule (tree_of m) → leaves m ≡ true → IsListed eq rule (canon (root_component m)) → IsAllowedAbove eq.types rule k (contracted m)
+  contracted-allowed : (k : ℕ) (m : CutTree) → IsAllowedAbove eq.types rule k (tree_of m) →
+      ConformsAbove eq.types rule (tree_of m) → leaves m ≡ true →
+      IsListed eq rule (canon (root_component m)) → IsAllowedAbove eq.types rule k (contracted m)
   contracted-allowed k m allowed conforms leaving listed =
       elim allowed [
         | inl noise ↦ absurd (no_leaves m leaving noise.1)
@@ -118,7 +123,9 @@ module _ (eq : Equation) (rule : Rule) (equation : IsEquation eq) (is_rule : IsR
   Extracted t = is_extracted eq.types t ≡ true
 
   -- a node above an edge that is not in the set
-  outside-allowed : (k : ℕ) (c : CutTree) (b : Bool) → leaves c ≡ b → HasMultis eq.types.dims c → HasTypes eq.types (tree_of c) → IsAllowedAbove eq.types rule k (tree_of c) → ConformsAbove eq.types rule (tree_of c) → fits b c ≡ true →
+  outside-allowed : (k : ℕ) (c : CutTree) (b : Bool) → leaves c ≡ b → HasMultis eq.types.dims c →
+      HasTypes eq.types (tree_of c) → IsAllowedAbove eq.types rule k (tree_of c) →
+      ConformsAbove eq.types rule (tree_of c) → fits b c ≡ true →
       AllByRecursion Extracted (cond b (root_component c ∷ components_above c) (components_above c)) → IsAllowedAbove eq.types rule k (contracted c)
   outside-allowed k c true leaving multis types allowed conforms f extracted =
       contracted-allowed k c allowed conforms leaving (part-listed eq rule (root_component c) (component-is_part eq rule k c is_rule multis types allowed conforms leaving) extracted.0)
@@ -137,7 +144,10 @@ module _ (eq : Equation) (rule : Rule) (equation : IsEquation eq) (is_rule : IsR
   all-above true t ts h = h.1
   all-above false t ts h = h
 
-  pub contracted-conforms : (touched : Bool) (m : CutTree) → HasMultis eq.types.dims m → HasTypes eq.types (tree_of m) → ConformsAbove eq.types rule (tree_of m) → fits touched m ≡ true → AllByRecursion Extracted (components_above m) → ConformsAbove eq.types rule (contracted m)
+  pub contracted-conforms : (touched : Bool) (m : CutTree) → HasMultis eq.types.dims m →
+      HasTypes eq.types (tree_of m) → ConformsAbove eq.types rule (tree_of m) →
+      fits touched m ≡ true → AllByRecursion Extracted (components_above m) →
+      ConformsAbove eq.types rule (contracted m)
   contracted-conforms touched (node a l) multis types conforms f extracted = tt
   contracted-conforms touched (edge true s k p c r) multis types conforms f extracted =
       let tests = and_parts (fits true c) (fits touched r) (and_parts (is_zero s || (touched && false)) (fits true c && fits touched r) f).1 in
@@ -153,7 +163,8 @@ module _ (eq : Equation) (rule : Rule) (equation : IsEquation eq) (is_rule : IsR
         contracted-conforms touched r multis.2 types.2 conforms.2 tests.1 (all-right own (components_above r) extracted),
       )
 
-  root-at : (m : CutTree) (b : Bool) → leaves m ≡ b → HasMultis eq.types.dims m → HasTypes eq.types (tree_of m) → IsConforming eq.types rule (tree_of m) → fits b m ≡ true →
+  root-at : (m : CutTree) (b : Bool) → leaves m ≡ b → HasMultis eq.types.dims m →
+      HasTypes eq.types (tree_of m) → IsConforming eq.types rule (tree_of m) → fits b m ≡ true →
       AllByRecursion Extracted (cond b (root_component m ∷ components_above m) (components_above m)) → IsAllowedAtRoot rule (contracted m)
   root-at m true leaving multis types h f extracted =
       let row = h.root.0 in
@@ -165,7 +176,9 @@ module _ (eq : Equation) (rule : Rule) (equation : IsEquation eq) (is_rule : IsR
       (h.root.0, h.root.1, (h.root.2.0, h.root.2.1, h.root.2.2 ∙ sym (node_type-untouched eq.types m multis types leaving f)))
 
   -- the contracted tree, in canonical form
-  pub quotient-conforms : (m : CutTree) → HasMultis eq.types.dims m → HasTypes eq.types (tree_of m) → IsConforming eq.types rule (tree_of m) → fits (leaves m) m ≡ true →
+  pub quotient-conforms : (m : CutTree) → HasMultis eq.types.dims m →
+      HasTypes eq.types (tree_of m) → IsConforming eq.types rule (tree_of m) →
+      fits (leaves m) m ≡ true →
       AllByRecursion Extracted (cond (leaves m) (root_component m ∷ components_above m) (components_above m)) → IsConforming eq.types rule (canon (contracted m))
   quotient-conforms m multis types h f extracted = record {
     root = root-canon_allowed rule (contracted m) (root-at m (leaves m) refl multis types h f extracted);
@@ -174,7 +187,9 @@ module _ (eq : Equation) (rule : Rule) (equation : IsEquation eq) (is_rule : IsR
   }
 
   -- the components are parts
-  pub components-are_parts : (m : CutTree) → HasMultis eq.types.dims m → HasTypes eq.types (tree_of m) → IsConforming eq.types rule (tree_of m) → AllByRecursion (IsPart eq rule) (cond (leaves m) (root_component m ∷ components_above m) (components_above m))
+  pub components-are_parts : (m : CutTree) → HasMultis eq.types.dims m →
+      HasTypes eq.types (tree_of m) → IsConforming eq.types rule (tree_of m) →
+      AllByRecursion (IsPart eq rule) (cond (leaves m) (root_component m ∷ components_above m) (components_above m))
   components-are_parts m multis types h =
       let row = h.root.0 in
       let allowed : IsAllowedAbove eq.types rule row.kernel.0 (tree_of m) = inr (row, h.root.1, refl, h.root.2) in

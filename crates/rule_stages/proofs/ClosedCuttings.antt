@@ -21,7 +21,9 @@ use Rattle.rule_stages.proofs.Closed.{part-listed, quotient-conforms, components
 use Rattle.rule_stages.proofs.Components.{IsPart}
 use Rattle.rule_stages.proofs.ReadDown.{IsReadDown, marking_read_down}
 
-from_filter-at : {X : Type 0} (p : X → Bool) (x y : X) (ys : List X) (b : Bool) → p y ≡ b → (IsIn x (filter p ys) → IsIn x ys × (p x ≡ true)) → IsIn x (cond b (y ∷ filter p ys) (filter p ys)) → IsIn x (y ∷ ys) × (p x ≡ true)
+from_filter-at : {X : Type 0} (p : X → Bool) (x y : X) (ys : List X) (b : Bool) → p y ≡ b →
+    (IsIn x (filter p ys) → IsIn x ys × (p x ≡ true)) →
+    IsIn x (cond b (y ∷ filter p ys) (filter p ys)) → IsIn x (y ∷ ys) × (p x ≡ true)
 from_filter-at {X} p x y ys true q ih h = elim h [ inl e ↦ (inl e, subst (λ (z : X). p z ≡ true) e q) | inr later ↦ (let rest = ih later in (inr rest.0, rest.1)) ]
 from_filter-at p x y ys false q ih h = let rest = ih h in (inr rest.0, rest.1)
 
@@ -34,7 +36,9 @@ all-passing p [] h = tt
 all-passing p (t ∷ ts) h = let tests = and_parts (p t) (list_all p ts) h in (tests.0, all-passing p ts tests.1)
 
 -- each part that is extracted is listed
-each-listed : (eq : Equation) (rule : Rule) (ts : List Plain) → AllByRecursion (IsPart eq rule) ts → AllByRecursion (λ t. is_extracted eq.types t ≡ true) ts → (t : Plain) → IsIn t ts → IsListed eq rule (canon t)
+each-listed : (eq : Equation) (rule : Rule) (ts : List Plain) → AllByRecursion (IsPart eq rule) ts →
+    AllByRecursion (λ t. is_extracted eq.types t ≡ true) ts → (t : Plain) → IsIn t ts →
+    IsListed eq rule (canon t)
 each-listed eq rule [] parts extracted t h = absurd h
 each-listed eq rule (u ∷ us) parts extracted t h =
     elim h [
@@ -42,7 +46,9 @@ each-listed eq rule (u ∷ us) parts extracted t h =
       | inr later ↦ each-listed eq rule us parts.1 extracted.1 t later
     ]
 
-closed-cut : (eq : Equation) (rule : Rule) (m : CutTree) (c : Cutting) → IsEquation eq → IsRule eq rule → IsNextStage eq rule rule → IsReadDown eq.types.dims (tree_of m) c → HasTypes eq.types (tree_of m) → IsConforming eq.types rule (tree_of m) →
+closed-cut : (eq : Equation) (rule : Rule) (m : CutTree) (c : Cutting) → IsEquation eq →
+    IsRule eq rule → IsNextStage eq rule rule → IsReadDown eq.types.dims (tree_of m) c →
+    HasTypes eq.types (tree_of m) → IsConforming eq.types rule (tree_of m) →
     is_cutting false c ≡ true → is_admissible eq.types c ≡ true → AreComponentsListed eq rule c × IsQuotientConforming eq rule c
 closed-cut eq rule m c equation is_rule fixed read types conforms cutting admissible =
     let cut = read.cut in
@@ -61,7 +67,9 @@ closed-cut eq rule m c equation is_rule fixed read types conforms cutting admiss
 read-as : (dims : ℕ) (t : Plain) (c : Cutting) (h : IsReadDown dims t c) → IsReadDown dims (tree_of h.cut) c
 read-as dims t c h = record { cut = h.cut; tree = refl; multis = h.multis; is = h.is }
 
-pub closed_under_cutting : (eq : Equation) (rule : Rule) (t : Plain) → IsEquation eq → IsRule eq rule → IsNextStage eq rule rule → HasTypes eq.types t → IsConforming eq.types rule t → IsClosedUnderCutting eq rule t
+pub closed_under_cutting : (eq : Equation) (rule : Rule) (t : Plain) → IsEquation eq →
+    IsRule eq rule → IsNextStage eq rule rule → HasTypes eq.types t → IsConforming eq.types rule t →
+    IsClosedUnderCutting eq rule t
 closed_under_cutting eq rule t equation is_rule fixed types conforms c h admissible =
     let member = from_filter (is_cutting false) c (markings (extraction_bound eq.types t) t) h in
     let read = marking_read_down eq.types (negative_size eq.types t / unsigned_abs eq.types.units.den) t c types member.0 in

@@ -30,10 +30,12 @@ component-part m =
     let sorted = node_type-sorted (root_component m) in
     subst (IsSubMultiset part) (sym (node_type-parted m)) (join-part [] (outside m) part part sorted sorted tt (sub_refl part))
 
-pub component-allowed : (eq : Equation) (rule : Rule) (k : ℕ) (m : CutTree) → IsRule eq rule → IsAllowedAbove eq.types rule k (tree_of m) → IsAllowedAbove eq.types rule k (root_component m)
+pub component-allowed : (eq : Equation) (rule : Rule) (k : ℕ) (m : CutTree) → IsRule eq rule →
+    IsAllowedAbove eq.types rule k (tree_of m) → IsAllowedAbove eq.types rule k (root_component m)
 component-allowed eq rule k m h allowed = in_rule-part eq rule k (node_type_of (root_component m)) (node_type_of (tree_of m)) h allowed (component-part m)
 
-pub component-conforms : (eq : Equation) (rule : Rule) (m : CutTree) → IsRule eq rule → ConformsAbove eq.types rule (tree_of m) → ConformsAbove eq.types rule (root_component m)
+pub component-conforms : (eq : Equation) (rule : Rule) (m : CutTree) → IsRule eq rule →
+    ConformsAbove eq.types rule (tree_of m) → ConformsAbove eq.types rule (root_component m)
 component-conforms eq rule (node a l) h c = tt
 component-conforms eq rule (edge true s k p c r) h conforms = (component-allowed eq rule k c h conforms.0, component-conforms eq rule c h conforms.1, component-conforms eq rule r h conforms.2)
 component-conforms eq rule (edge false s k p c r) h conforms = conforms-raised eq.types rule s (root_component r) (component-conforms eq rule r h conforms.2)
@@ -86,7 +88,10 @@ root-allowed eq rule k (graft l p c t) h allowed =
       | inr kernel ↦ (kernel.0, kernel.1, kernel.3)
     ]
 
-pub component-is_part : (eq : Equation) (rule : Rule) (k : ℕ) (m : CutTree) → IsRule eq rule → HasMultis eq.types.dims m → HasTypes eq.types (tree_of m) → IsAllowedAbove eq.types rule k (tree_of m) → ConformsAbove eq.types rule (tree_of m) → leaves m ≡ true →
+pub component-is_part : (eq : Equation) (rule : Rule) (k : ℕ) (m : CutTree) → IsRule eq rule →
+    HasMultis eq.types.dims m → HasTypes eq.types (tree_of m) →
+    IsAllowedAbove eq.types rule k (tree_of m) → ConformsAbove eq.types rule (tree_of m) →
+    leaves m ≡ true →
     IsPart eq rule (root_component m)
 component-is_part eq rule k m h multis types allowed conforms leaving =
     let edges = has_edge-root_component m ∙ leaving in
@@ -105,7 +110,9 @@ pub own-parts : (P : Plain → Type 0) (b : Bool) (t : Plain) (ts : List Plain) 
 own-parts P true t ts h k = (h refl, k)
 own-parts P false t ts h k = k
 
-pub parts_above : (eq : Equation) (rule : Rule) (m : CutTree) → IsRule eq rule → HasMultis eq.types.dims m → HasTypes eq.types (tree_of m) → ConformsAbove eq.types rule (tree_of m) → AllByRecursion (IsPart eq rule) (components_above m)
+pub parts_above : (eq : Equation) (rule : Rule) (m : CutTree) → IsRule eq rule →
+    HasMultis eq.types.dims m → HasTypes eq.types (tree_of m) →
+    ConformsAbove eq.types rule (tree_of m) → AllByRecursion (IsPart eq rule) (components_above m)
 parts_above eq rule (node a l) h multis types conforms = tt
 parts_above eq rule (edge true s k p c r) h multis types conforms =
     all-append (IsPart eq rule) (components_above c) (components_above r) (parts_above eq rule c h multis.1 types.1 conforms.1) (parts_above eq rule r h multis.2 types.2 conforms.2)

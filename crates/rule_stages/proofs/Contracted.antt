@@ -1,4 +1,5 @@
--- What a contraction makes of the node types: the edges that leave a component, raised, are additions at its nodes.
+-- What a contraction makes of the node types: the edges that leave a component, raised, are
+-- additions at its nodes.
 use Rattle.std.proofs.Common.{◌≡◌, ℕ, true, false, List, [], ◌∷◌, refl, sym, ap, ◌∙◌, subst, arith}
 use Rattle.degree_numbers.specs.declared.types.Types.{Types}
 use Rattle.degree_numbers.specs.Multi.{plus_of}
@@ -12,7 +13,8 @@ use Rattle.rule_stages.specs.Stages.{join, IsRaised, IsAddition, AreAdditionsAbo
 use Rattle.rule_stages.proofs.Joins.{count-join, join-sorted}
 use Rattle.rule_stages.proofs.Parts.{additions-sorted}
 
--- the edge types of the edges at the root that are not in the set, as they are and raised by their shifts
+-- the edge types of the edges at the root that are not in the set, as they are and raised by their
+-- shifts
 abbrev pub outside : CutTree → List EdgeLabel
 outside (node a l) = []
 outside (edge true s k p c r) = outside r
@@ -35,7 +37,8 @@ pub conforms-raised : (ty : Types) (rule : Rule) (m : List ℕ) (t : Plain) → 
 conforms-raised ty rule m (bare n) h = tt
 conforms-raised ty rule m (graft k p c t) h = (h.0, h.1, conforms-raised ty rule m t h.2)
 
-additions-raised : (ty : Types) (rule : Rule) (m : List ℕ) (t : Plain) (rs : List EdgeLabel) → AreAdditionsAbove ty rule t rs → AreAdditionsAbove ty rule (raised m t) rs
+additions-raised : (ty : Types) (rule : Rule) (m : List ℕ) (t : Plain) (rs : List EdgeLabel) →
+    AreAdditionsAbove ty rule t rs → AreAdditionsAbove ty rule (raised m t) rs
 additions-raised ty rule m (bare n) rs h = h
 additions-raised ty rule m (graft k p c t) rs h = (h.0, h.1, h.2, h.3, h.4, additions-raised ty rule m t h.2 h.5, h.6)
 
@@ -69,11 +72,14 @@ pub conforms-joined : (ty : Types) (rule : Rule) (s t : Plain) → ConformsAbove
 conforms-joined ty rule (bare n) t h k = conforms-raised ty rule n t k
 conforms-joined ty rule (graft l p c s) t h k = (h.0, h.1, conforms-joined ty rule s t h.2 k)
 
-component-addition : (ty : Types) (rule : Rule) (k : ℕ) (m : CutTree) → IsAllowedAbove ty rule k (tree_of m) → IsAddition ty rule k (root_component m) (outside_raised m)
+component-addition : (ty : Types) (rule : Rule) (k : ℕ) (m : CutTree) →
+    IsAllowedAbove ty rule k (tree_of m) →
+    IsAddition ty rule k (root_component m) (outside_raised m)
 component-addition ty rule k m h = (outside m, subst (IsInRule ty rule k) (node_type-parted m) h, outside-raised m)
 
 -- the four parts of what a contraction makes, in two orders
-four : (u above v others : List EdgeLabel) → IsInLabelOrder others → IsInLabelOrder above → join (join u above) (join v others) ≡ join v (join u (join above others))
+four : (u above v others : List EdgeLabel) → IsInLabelOrder others → IsInLabelOrder above →
+    join (join u above) (join v others) ≡ join v (join u (join above others))
 four u above v others h k =
     same_labels (join (join u above) (join v others)) (join v (join u (join above others))) (join-sorted (join u above) (join v others) (join-sorted v others h)) (join-sorted v (join u (join above others)) (join-sorted u (join above others) (join-sorted above others h)))
     (λ z. omega (arith, count-join z (join u above) (join v others), count-join z u above, count-join z v others, count-join z v (join u (join above others)), count-join z u (join above others), count-join z above others))
@@ -95,7 +101,9 @@ additions_above ty rule (edge false s k p c r) h =
     (beside.0, additions-raised ty rule s (root_component r) beside.0 beside.1, ap (put_label (k, plus_of p s)) beside.2)
 
 -- a component, with what its contraction makes at its node
-pub component-additions : (ty : Types) (rule : Rule) (k : ℕ) (m : CutTree) → IsAllowedAbove ty rule k (tree_of m) → ConformsAbove ty rule (tree_of m) → AreAdditions ty rule k (root_component m) (node_type_of (contracted m))
+pub component-additions : (ty : Types) (rule : Rule) (k : ℕ) (m : CutTree) →
+    IsAllowedAbove ty rule k (tree_of m) → ConformsAbove ty rule (tree_of m) →
+    AreAdditions ty rule k (root_component m) (node_type_of (contracted m))
 component-additions ty rule k m allowed conforms =
     let above = additions_above ty rule m conforms in
     (outside_raised m, above.0, component-addition ty rule k m allowed, above.1, above.2)

@@ -20,7 +20,8 @@ join-sorted (e ∷ es) fs h = put-sorted e (join es fs) (join-sorted es fs h)
 pub join-nil-sorted : (es : List EdgeLabel) → IsInLabelOrder (join es [])
 join-nil-sorted es = join-sorted es [] (λ k d l m. absurd (omega arith))
 
-pub join-part : (es fs gs hs : List EdgeLabel) → IsInLabelOrder gs → IsInLabelOrder hs → IsSubMultiset es fs → IsSubMultiset gs hs → IsSubMultiset (join es gs) (join fs hs)
+pub join-part : (es fs gs hs : List EdgeLabel) → IsInLabelOrder gs → IsInLabelOrder hs →
+    IsSubMultiset es fs → IsSubMultiset gs hs → IsSubMultiset (join es gs) (join fs hs)
 join-part es fs gs hs g h sub part =
     part_of_labels (join es gs) (join fs hs) (join-sorted es gs g) (join-sorted fs hs h)
     (λ z. omega (arith, count-join z es gs, count-join z fs hs, sub_counts edge_label_order es fs sub z, sub_counts edge_label_order gs hs part z))
@@ -42,7 +43,9 @@ front : (e : EdgeLabel) (es : List EdgeLabel) → IsInLabelOrder (e ∷ es) → 
 front e [] h = refl
 front e (f ∷ fs) h = let first = not_above e f (sorted-next edge_label_order edge_label_total e f fs h) in rw first refl
 
-part_of_put-pass : (e f : EdgeLabel) (es fs : List EdgeLabel) → is_gt (edge_label_order e f) ≡ true → ((ds : List EdgeLabel) → IsSubMultiset ds (put_label e fs) → PartOfPut e ds fs) →
+part_of_put-pass : (e f : EdgeLabel) (es fs : List EdgeLabel) →
+    is_gt (edge_label_order e f) ≡ true →
+    ((ds : List EdgeLabel) → IsSubMultiset ds (put_label e fs) → PartOfPut e ds fs) →
     IsSubMultiset es (f ∷ put_label e fs) → PartOfPut e es (f ∷ fs)
 part_of_put-pass e f [] fs gt ih h = inl tt
 part_of_put-pass e f (x ∷ xs) fs gt ih h =
@@ -71,7 +74,9 @@ part_of_put-stop e f (x ∷ xs) fs s h =
       | inr left ↦ inl left
     ]
 
-part_of_put-at : (e f : EdgeLabel) (es fs : List EdgeLabel) (a : Bool) → is_gt (edge_label_order e f) ≡ a → IsInLabelOrder (f ∷ fs) → ((ds : List EdgeLabel) → IsSubMultiset ds (put_label e fs) → PartOfPut e ds fs) →
+part_of_put-at : (e f : EdgeLabel) (es fs : List EdgeLabel) (a : Bool) →
+    is_gt (edge_label_order e f) ≡ a → IsInLabelOrder (f ∷ fs) →
+    ((ds : List EdgeLabel) → IsSubMultiset ds (put_label e fs) → PartOfPut e ds fs) →
     IsSubMultiset es (put_label e (f ∷ fs)) → PartOfPut e es (f ∷ fs)
 part_of_put-at e f es fs true gt s ih h = part_of_put-pass e f es fs gt ih (rw gt at h)
 part_of_put-at e f es fs false gt s ih h =
@@ -93,7 +98,8 @@ part_of_put e (x ∷ xs) (f ∷ fs) s h =
     part_of_put-at e f (x ∷ xs) fs (is_gt (edge_label_order e f)) refl s (λ ds k. part_of_put e ds fs (sorted-rest edge_label_order edge_label_total f fs s) k) h
 
 -- a part of two lists together is a part of the one with a part of the other
-pub part_of_join : (xs bs es : List EdgeLabel) → IsInLabelOrder bs → IsSubMultiset es (join xs bs) → (cs ds : List EdgeLabel) × IsSubMultiset cs xs × IsSubMultiset ds bs × (es ≡ join cs ds)
+pub part_of_join : (xs bs es : List EdgeLabel) → IsInLabelOrder bs → IsSubMultiset es (join xs bs) →
+    (cs ds : List EdgeLabel) × IsSubMultiset cs xs × IsSubMultiset ds bs × (es ≡ join cs ds)
 part_of_join [] bs es s h = ([], es, tt, h, refl)
 part_of_join (a ∷ xs) bs es s h =
     elim (part_of_put a es (join xs bs) (join-sorted xs bs s) h) [

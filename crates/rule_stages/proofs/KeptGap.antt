@@ -17,7 +17,9 @@ member-in_row : (rule : Rule) (row : RuleRow) (n : NodeType) → IsIn row rule.r
 member-in_row rule row n h k = (row, h, refl, (n, k, refl))
 
 -- what a clause on all differences says of edge types
-leaves : (eq : Equation) (rule : Rule) (g : ℤ) → ((row : RuleRow) (n : NodeType) → IsIn row rule.rows → IsIn n row.nodes → g ≤ℤ difference eq row.kernel.0 n) → LeavesGap eq rule g
+leaves : (eq : Equation) (rule : Rule) (g : ℤ) →
+    ((row : RuleRow) (n : NodeType) → IsIn row rule.rows → IsIn n row.nodes → g ≤ℤ difference eq row.kernel.0 n) →
+    LeavesGap eq rule g
 leaves eq rule g least k es has =
     let row = has.0 in
     let n = has.3.0 in
@@ -27,7 +29,8 @@ leaves eq rule g least k es has =
     let right = ap (λ (i : ℕ). (type_degree eq.types i).a) has.2 in
     omega (arith, ints, low, sum, left, right)
 
-difference-leaves : (eq : Equation) (rule : Rule) (g : ℤ) (row : RuleRow) (n : NodeType) → LeavesGap eq rule g → IsIn row rule.rows → IsIn n row.nodes → g ≤ℤ difference eq row.kernel.0 n
+difference-leaves : (eq : Equation) (rule : Rule) (g : ℤ) (row : RuleRow) (n : NodeType) →
+    LeavesGap eq rule g → IsIn row rule.rows → IsIn n row.nodes → g ≤ℤ difference eq row.kernel.0 n
 difference-leaves eq rule g row n gap h k =
     let low = gap row.kernel.0 (labels n) (member-in_row rule row n h k) in
     let sum = node_regularity-labels eq n in
@@ -49,7 +52,8 @@ next_subcritical eq rule next is_rule sub h row n there member =
     let kept = next-leaves_gap eq rule next (pos 1) is_rule gap (omega (arith, ints)) h in
     one-holds eq row.kernel.0 n (difference-leaves eq next (pos 1) row n kept there member)
 
-pub next_gap : (eq : Equation) (rule next : Rule) (g : ℤ) → IsRule eq rule → IsSubcritical eq rule → IsGap eq rule g → IsNextStage eq rule next → IsGap eq next g
+pub next_gap : (eq : Equation) (rule next : Rule) (g : ℤ) → IsRule eq rule → IsSubcritical eq rule →
+    IsGap eq rule g → IsNextStage eq rule next → IsGap eq next g
 next_gap eq rule next g is_rule sub gap h =
     let above : pos 1 ≤ℤ g = let one = holds-one eq gap.row.kernel.0 gap.node (sub gap.row gap.node gap.row_of_rule gap.node_of_row) in let is = gap.is in omega (arith, ints, one, is) in
     let kept = next-leaves_gap eq rule next g is_rule (leaves eq rule g gap.least) (omega (arith, ints, above)) h in
@@ -75,6 +79,7 @@ pub stage_subcritical : (eq : Equation) (base rule : Rule) (j : ℕ) → IsRule 
 stage_subcritical eq base rule zero h sub s = subst (IsSubcritical eq) (sym s) sub
 stage_subcritical eq base rule (suc j) h sub s = next_subcritical eq s.0 rule (stage_rule eq base s.0 j h s.1) (stage_subcritical eq base s.0 j h sub s.1) s.2
 
-pub stage_gap : (eq : Equation) (base rule : Rule) (j : ℕ) (g : ℤ) → IsRule eq base → IsSubcritical eq base → IsGap eq base g → IsStage eq base j rule → IsGap eq rule g
+pub stage_gap : (eq : Equation) (base rule : Rule) (j : ℕ) (g : ℤ) → IsRule eq base →
+    IsSubcritical eq base → IsGap eq base g → IsStage eq base j rule → IsGap eq rule g
 stage_gap eq base rule zero g h sub gap s = subst (λ (r : Rule). IsGap eq r g) (sym s) gap
 stage_gap eq base rule (suc j) g h sub gap s = next_gap eq s.0 rule g (stage_rule eq base s.0 j h s.1) (stage_subcritical eq base s.0 j h sub s.1) (stage_gap eq base s.0 j g h sub gap s.1) s.2

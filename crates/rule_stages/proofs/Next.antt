@@ -14,7 +14,8 @@ abbrev node : List EdgeType → NodeType
 node es = record { edges = es }
 
 -- a sub-multiset of labels is that of edge types
-sub_of_labels : (es : List EdgeLabel) (xs : List EdgeType) → IsSubMultiset es (map label xs) → (ys : List EdgeType) × (map label ys ≡ es) × IsSubMultiset (map pair_of ys) (map pair_of xs)
+sub_of_labels : (es : List EdgeLabel) (xs : List EdgeType) → IsSubMultiset es (map label xs) →
+    (ys : List EdgeType) × (map label ys ≡ es) × IsSubMultiset (map pair_of ys) (map pair_of xs)
 sub_of_labels [] xs h = ([], refl, tt)
 sub_of_labels (e ∷ es) [] h = absurd h
 sub_of_labels (e ∷ es) (x ∷ xs) h =
@@ -28,7 +29,8 @@ sub_of_labels (e ∷ es) (x ∷ xs) h =
     ]
 
 -- the row of a kernel holds the sub-multisets of what it holds
-pub row_closed : (eq : Equation) (rule : Rule) (k : ℕ) (es rs : List EdgeLabel) → IsRule eq rule → IsInKernelRow rule k rs → IsSubMultiset es rs → IsInKernelRow rule k es
+pub row_closed : (eq : Equation) (rule : Rule) (k : ℕ) (es rs : List EdgeLabel) → IsRule eq rule →
+    IsInKernelRow rule k rs → IsSubMultiset es rs → IsInKernelRow rule k es
 row_closed eq rule k es rs h has sub =
     let row = has.0 in
     let n = has.3.0 in
@@ -38,7 +40,11 @@ row_closed eq rule k es rs h has sub =
 pub next_holds : (eq : Equation) (rule next : Rule) (k : ℕ) (es : List EdgeLabel) → IsNextStage eq rule next → IsInKernelRow rule k es → IsInKernelRow next k es
 next_holds eq rule next k es h has = h.whole k es (inl has)
 
-pub next_least : (eq : Equation) (rule next other : Rule) → IsNextStage eq rule next → IsRule eq other → ((k : ℕ) (es : List EdgeLabel) → IsInKernelRow rule k es → IsInKernelRow other k es) → ((k : ℕ) (rs : List EdgeLabel) → IsMade eq rule k rs → IsInKernelRow other k rs) → (k : ℕ) (es : List EdgeLabel) → IsInKernelRow next k es → IsInKernelRow other k es
+pub next_least : (eq : Equation) (rule next other : Rule) → IsNextStage eq rule next →
+    IsRule eq other →
+    ((k : ℕ) (es : List EdgeLabel) → IsInKernelRow rule k es → IsInKernelRow other k es) →
+    ((k : ℕ) (rs : List EdgeLabel) → IsMade eq rule k rs → IsInKernelRow other k rs) →
+    (k : ℕ) (es : List EdgeLabel) → IsInKernelRow next k es → IsInKernelRow other k es
 next_least eq rule next other h normal holds made k es has =
     elim (h.sound k es has) [
       | inl old ↦ holds k es old

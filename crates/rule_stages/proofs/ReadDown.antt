@@ -87,7 +87,9 @@ multi-shift dims k p s m h =
     record { entries = length-limits (each_direction dims k) p ∙ m.entries; rest = zeros-limits dims k p }
 
 -- choices along two lists
-from_choices_append : {X Y : Type 0} (f : X → List Y) (xs ys : List X) (zs : List Y) → IsIn zs (choices f (xs ++ ys)) → (us vs : List Y) × IsIn us (choices f xs) × IsIn vs (choices f ys) × (us ++ vs ≡ zs)
+from_choices_append : {X Y : Type 0} (f : X → List Y) (xs ys : List X) (zs : List Y) →
+    IsIn zs (choices f (xs ++ ys)) →
+    (us vs : List Y) × IsIn us (choices f xs) × IsIn vs (choices f ys) × (us ++ vs ≡ zs)
 from_choices_append f [] ys zs h = ([], zs, inl refl, h, refl)
 from_choices_append {X} {Y} f (x ∷ xs) ys zs h =
     let first = from_flat_map (λ (y : Y). map (λ (l : List Y). y ∷ l) (choices f (xs ++ ys))) zs (f x) h in
@@ -123,7 +125,9 @@ record IsReading (dims : ℕ) (t : Plain) (r next : ℕ) (a : List ℕ) (es : Li
   pub rows : rows_from r next m ≡ es
   pub size : cut_size m ≡ edge_count_of t
 
-read_down : (ty : Types) (k : ℕ) (t : Plain) (r next : ℕ) (a : List ℕ) (es : List Marked) → HasTypes ty t → IsIn a (below (root_of t)) → IsIn es (choices (marks (each_direction ty.dims k)) (links_from r next t)) →
+read_down : (ty : Types) (k : ℕ) (t : Plain) (r next : ℕ) (a : List ℕ) (es : List Marked) →
+    HasTypes ty t → IsIn a (below (root_of t)) →
+    IsIn es (choices (marks (each_direction ty.dims k)) (links_from r next t)) →
     (m : CutTree) × IsReading ty.dims t r next a es m
 read_down ty k (bare n) r next a es types ha hes =
     let part = in_below n a ha in (

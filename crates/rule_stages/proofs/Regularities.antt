@@ -1,4 +1,5 @@
--- What is made of the listed trees of a rule meets the inequality of regularities with the gap of the rule.
+-- What is made of the listed trees of a rule meets the inequality of regularities with the gap of
+-- the rule.
 use Rattle.std.proofs.Common.{◌≡◌, ℕ, ℤ, pos, neg_ℤ, ◌+ℤ◌, ◌≤ℤ◌, true, false, Bool, List, [], ◌∷◌, map, refl, sym, ap, ◌∙◌, arith, inl, inr, Some, None, Option}
 use Rattle.std.specs.Prelude.{fold, slice_get}
 use Rattle.std.specs.Ordering.{is_lt, is_gt}
@@ -36,12 +37,15 @@ sum_from eq (e ∷ es) z = let rest = sum_from eq es (z +ℤ edge_regularity eq 
 pub node_regularity-labels : (eq : Equation) (n : NodeType) → node_regularity eq n ≡ labels_regularity eq (labels n)
 node_regularity-labels eq n = let e = sum_from eq n.edges (pos 0) in omega (arith, ints, e)
 
-put-regularity-at : (eq : Equation) (e f : EdgeLabel) (fs : List EdgeLabel) (a : Bool) → is_gt (edge_label_order e f) ≡ a → labels_regularity eq (put_label e fs) ≡ label_regularity eq e +ℤ labels_regularity eq fs →
+put-regularity-at : (eq : Equation) (e f : EdgeLabel) (fs : List EdgeLabel) (a : Bool) →
+    is_gt (edge_label_order e f) ≡ a →
+    labels_regularity eq (put_label e fs) ≡ label_regularity eq e +ℤ labels_regularity eq fs →
     labels_regularity eq (put_label e (f ∷ fs)) ≡ label_regularity eq e +ℤ labels_regularity eq (f ∷ fs)
 put-regularity-at eq e f fs true h ih = rw h (omega (arith, ints, ih))
 put-regularity-at eq e f fs false h ih = rw h refl
 
-put-regularity : (eq : Equation) (e : EdgeLabel) (es : List EdgeLabel) → labels_regularity eq (put_label e es) ≡ label_regularity eq e +ℤ labels_regularity eq es
+put-regularity : (eq : Equation) (e : EdgeLabel) (es : List EdgeLabel) →
+    labels_regularity eq (put_label e es) ≡ label_regularity eq e +ℤ labels_regularity eq es
 put-regularity eq e [] = refl
 put-regularity eq e (f ∷ fs) = put-regularity-at eq e f fs (is_gt (edge_label_order e f)) refl (put-regularity eq e fs)
 
@@ -49,7 +53,8 @@ join-regularity : (eq : Equation) (es fs : List EdgeLabel) → labels_regularity
 join-regularity eq [] fs = omega (arith, ints)
 join-regularity eq (e ∷ es) fs = let one = put-regularity eq e (join es fs) in let rest = join-regularity eq es fs in omega (arith, ints, one, rest)
 
-raised-regularity : (eq : Equation) (n : List ℕ) (ms rs : List EdgeLabel) → IsRaised n ms rs → labels_regularity eq ms ≤ℤ (labels_regularity eq rs +ℤ pos (size_in_units eq.types n))
+raised-regularity : (eq : Equation) (n : List ℕ) (ms rs : List EdgeLabel) → IsRaised n ms rs →
+    labels_regularity eq ms ≤ℤ (labels_regularity eq rs +ℤ pos (size_in_units eq.types n))
 raised-regularity eq n [] [] h = omega (arith, ints)
 raised-regularity eq n [] (r ∷ rs) h = absurd h
 raised-regularity eq n (m ∷ ms) [] h = absurd h
@@ -64,7 +69,9 @@ raised-regularity eq n (m ∷ ms) (r ∷ rs) h =
 abbrev pub LeavesGap : Equation → Rule → ℤ → Type 0
 LeavesGap eq rule g = (k : ℕ) (es : List EdgeLabel) → IsInKernelRow rule k es → (regularity_of eq k +ℤ g) ≤ℤ ((type_degree eq.types k).a +ℤ labels_regularity eq es)
 
-addition-regularity : (eq : Equation) (rule : Rule) (g : ℤ) (k : ℕ) (t : Plain) (ms rs : List EdgeLabel) → LeavesGap eq rule g → IsInKernelRow rule k (join ms (node_type_of t)) → IsRaised (root_of t) ms rs →
+addition-regularity : (eq : Equation) (rule : Rule) (g : ℤ) (k : ℕ) (t : Plain) (ms rs : List EdgeLabel) →
+    LeavesGap eq rule g → IsInKernelRow rule k (join ms (node_type_of t)) →
+    IsRaised (root_of t) ms rs →
     (regularity_of eq k +ℤ g) ≤ℤ ((type_degree eq.types k).a +ℤ labels_regularity eq (node_type_of t) +ℤ labels_regularity eq rs +ℤ pos (size_in_units eq.types (root_of t)))
 addition-regularity eq rule g k t ms rs gap allowed raised =
     let all = gap k (join ms (node_type_of t)) allowed in
@@ -96,11 +103,14 @@ raised-none n [] (r ∷ rs) q h = absurd h
 raised-none n (m ∷ ms) rs q h = absurd cc
 
 -- a tree without edges has a degree of at least 0, and nothing is added above its root
-bare-degree : (ty : Types) (rule : Rule) (t : Plain) (rs : List EdgeLabel) → node_type_of t ≡ [] → AreAdditionsAbove ty rule t rs → (pos 0 ≤ℤ (degree_of ty t).a) × (rs ≡ [])
+bare-degree : (ty : Types) (rule : Rule) (t : Plain) (rs : List EdgeLabel) → node_type_of t ≡ [] →
+    AreAdditionsAbove ty rule t rs → (pos 0 ≤ℤ (degree_of ty t).a) × (rs ≡ [])
 bare-degree ty rule (bare n) rs q h = (omega (arith, ints), h)
 bare-degree ty rule (graft k p c t) rs q h = absurd (put-some (k, p) (node_type_of t) q)
 
-edge-regularity : (eq : Equation) (rule : Rule) (g : ℤ) (k : ℕ) (p : List ℕ) (c : Plain) (at above : List EdgeLabel) → LeavesGap eq rule g → pos 0 ≤ℤ g → IsAddition eq.types rule k c at → AreAdditionsAbove eq.types rule c above →
+edge-regularity : (eq : Equation) (rule : Rule) (g : ℤ) (k : ℕ) (p : List ℕ) (c : Plain) (at above : List EdgeLabel) →
+    LeavesGap eq rule g → pos 0 ≤ℤ g → IsAddition eq.types rule k c at →
+    AreAdditionsAbove eq.types rule c above →
     (labels_regularity eq (node_type_of c) +ℤ pos (size_in_units eq.types (root_of c))) ≤ℤ ((degree_of eq.types c).a +ℤ labels_regularity eq above) →
     label_regularity eq (k, p) ≤ℤ ((type_degree eq.types k).a +ℤ neg_ℤ (pos (size_in_units eq.types p)) +ℤ (degree_of eq.types c).a +ℤ labels_regularity eq at +ℤ labels_regularity eq above)
 edge-regularity eq rule g k p c at above gap low add more ih =
@@ -118,7 +128,8 @@ edge-regularity eq rule g k p c at above gap low add more ih =
           omega (arith, ints, one, ih, low)
     ]
 
-above-regularity : (eq : Equation) (rule : Rule) (g : ℤ) (t : Plain) (rs : List EdgeLabel) → LeavesGap eq rule g → pos 0 ≤ℤ g → AreAdditionsAbove eq.types rule t rs →
+above-regularity : (eq : Equation) (rule : Rule) (g : ℤ) (t : Plain) (rs : List EdgeLabel) →
+    LeavesGap eq rule g → pos 0 ≤ℤ g → AreAdditionsAbove eq.types rule t rs →
     (labels_regularity eq (node_type_of t) +ℤ pos (size_in_units eq.types (root_of t))) ≤ℤ ((degree_of eq.types t).a +ℤ labels_regularity eq rs)
 above-regularity eq rule g (bare n) rs gap low h = let none : labels_regularity eq rs ≡ pos 0 = ap (labels_regularity eq) h in omega (arith, ints, none)
 above-regularity eq rule g (graft k p c t) rs gap low h =
@@ -135,7 +146,9 @@ kernel-in_row ty rule k es h allowed = elim allowed [ inl noise ↦ absurd (let 
 listed-low : (eq : Equation) (rule : Rule) (t : Plain) → IsListed eq rule t → (degree_of eq.types t).a ≤ℤ pos 0
 listed-low eq rule t h = below_low (degree_of eq.types t) (ap is_lt h.negative)
 
-made-regularity : (eq : Equation) (rule : Rule) (g : ℤ) (k : ℕ) (rs : List EdgeLabel) → LeavesGap eq rule g → pos 0 ≤ℤ g → IsMade eq rule k rs → (regularity_of eq k +ℤ g) ≤ℤ ((type_degree eq.types k).a +ℤ labels_regularity eq rs)
+made-regularity : (eq : Equation) (rule : Rule) (g : ℤ) (k : ℕ) (rs : List EdgeLabel) →
+    LeavesGap eq rule g → pos 0 ≤ℤ g → IsMade eq rule k rs →
+    (regularity_of eq k +ℤ g) ≤ℤ ((type_degree eq.types k).a +ℤ labels_regularity eq rs)
 made-regularity eq rule g k rs gap low made =
     let add = made.additions in
     let root = addition-regularity eq rule g k made.tree add.2.0 add.0 gap (kernel-in_row eq.types rule k (join add.2.0 (node_type_of made.tree)) made.kernel add.2.1) add.2.2 in
@@ -144,7 +157,8 @@ made-regularity eq rule g k rs gap low made =
     let negative = listed-low eq rule made.tree made.listed in
     omega (arith, ints, root, above, sum, negative)
 
-pub next-leaves_gap : (eq : Equation) (rule next : Rule) (g : ℤ) → IsRule eq rule → LeavesGap eq rule g → pos 0 ≤ℤ g → IsNextStage eq rule next → LeavesGap eq next g
+pub next-leaves_gap : (eq : Equation) (rule next : Rule) (g : ℤ) → IsRule eq rule →
+    LeavesGap eq rule g → pos 0 ≤ℤ g → IsNextStage eq rule next → LeavesGap eq next g
 next-leaves_gap eq rule next g is_rule gap low h k es has =
     elim (h.sound k es has) [
       | inl old ↦ gap k es old

@@ -1,4 +1,5 @@
-//! The stages of the completion of a rule, and their laws. It has definitions and laws alone, and no body that could be wrong.
+//! The stages of the completion of a rule, and their laws. It has definitions and laws alone, and
+//! no body that could be wrong.
 #![tactic(auto)]
 
 mod laws;

@@ -37,7 +37,9 @@ above-sorted ty rule (graft k p c t) es h =
     let rest = join-sorted second.0 second.1 (above-sorted ty rule t second.1 second.3) in
     subst IsInLabelOrder (sym first.4) (join-sorted first.0 first.1 (subst IsInLabelOrder (sym second.4) rest))
 
-in_above : (ty : Types) (rule : Rule) (k : ℕ) (p : List ℕ) (c t : Plain) (a u v es : List EdgeLabel) → IsIn a (additions_at ty rule k c) → IsAbove ty rule c u → IsAbove ty rule t v → es ≡ join a (join u v) → IsAbove ty rule (graft k p c t) es
+in_above : (ty : Types) (rule : Rule) (k : ℕ) (p : List ℕ) (c t : Plain) (a u v es : List EdgeLabel) →
+    IsIn a (additions_at ty rule k c) → IsAbove ty rule c u → IsAbove ty rule t v →
+    es ≡ join a (join u v) → IsAbove ty rule (graft k p c t) es
 in_above ty rule k p c t a u v es h i j is =
     subst (IsAbove ty rule (graft k p c t)) (sym is)
     (in_sums (additions_at ty rule k c) (sums (additions_above ty rule c) (additions_above ty rule t)) a (join u v) h
@@ -81,7 +83,9 @@ is-sum ty rule k p c t at above others inner a u v w es h =
 above_none : (ty : Types) (rule : Rule) (n : List ℕ) → IsSetOf (IsAbove ty rule (bare n)) (empty_node ∷ [])
 above_none ty rule n = set_one (IsAbove ty rule (bare n)) empty_node (inl refl) (λ es h. elim h [ inl e ↦ e | inr none ↦ absurd none ])
 
-above_more : (ty : Types) (rule : Rule) (k : ℕ) (p : List ℕ) (c t : Plain) (at above others inner all : List NodeType) → IsSetOf (IsAdditionAt ty rule k c) at → IsSetOf (IsAbove ty rule c) above → IsSetOf (IsAbove ty rule t) others →
+above_more : (ty : Types) (rule : Rule) (k : ℕ) (p : List ℕ) (c t : Plain) (at above others inner all : List NodeType) →
+    IsSetOf (IsAdditionAt ty rule k c) at → IsSetOf (IsAbove ty rule c) above →
+    IsSetOf (IsAbove ty rule t) others →
     IsSetOf (IsSumOf above others) inner → IsSetOf (IsSumOf at inner) all → IsSetOf (IsAbove ty rule (graft k p c t)) all
 above_more ty rule k p c t at above others inner all a u v w =
     set_by (IsSumOf at inner) (IsAbove ty rule (graft k p c t)) all (sum-is ty rule k p c t at above others inner a u v w) (is-sum ty rule k p c t at above others inner a u v w)
@@ -109,16 +113,20 @@ left_before c n es (suc i) h le =
 pub below_before : (b : ℕ) (es : List EdgeTo) (i : ℕ) → AreBelow b es → 0 < i → i ≤ length es → (edge_before es i).child.0 < b
 below_before b es i h some le = below_at b es (i - 1) no_edge h (omega (arith, some, le))
 
-pub above_end : (ty : Types) (rule : Rule) (c : Content) (n : List ℕ) (es : List EdgeTo) (all : List NodeType) → all ≡ empty_node ∷ [] → IsSetOf (IsAbove ty rule (left c n es (length es))) all
+pub above_end : (ty : Types) (rule : Rule) (c : Content) (n : List ℕ) (es : List EdgeTo) (all : List NodeType) →
+    all ≡ empty_node ∷ [] → IsSetOf (IsAbove ty rule (left c n es (length es))) all
 above_end ty rule c n es all is = rw (none_left es (length es) (omega arith), is) (above_none ty rule n)
 
-pub above_step : (ty : Types) (rule : Rule) (c : Content) (n : List ℕ) (es : List EdgeTo) (i : ℕ) (at above others inner all : List NodeType) → 0 < i → i ≤ length es → IsSetOf (IsAdditionAt ty rule (edge_before es i).kind.0 (upper c es i)) at →
+pub above_step : (ty : Types) (rule : Rule) (c : Content) (n : List ℕ) (es : List EdgeTo) (i : ℕ) (at above others inner all : List NodeType) →
+    0 < i → i ≤ length es →
+    IsSetOf (IsAdditionAt ty rule (edge_before es i).kind.0 (upper c es i)) at →
     IsSetOf (IsAbove ty rule (upper c es i)) above → IsSetOf (IsAbove ty rule (left c n es i)) others → IsSetOf (IsSumOf above others) inner → IsSetOf (IsSumOf at inner) all → IsSetOf (IsAbove ty rule (left c n es (i - 1))) all
 above_step ty rule c n es i at above others inner all some le a u v w x =
     subst (λ (t : Plain). IsSetOf (IsAbove ty rule t) all) (sym (left_before c n es i some le))
     (above_more ty rule (edge_before es i).kind.0 (edge_before es i).p.entries (upper c es i) (left c n es i) at above others inner all a u v w x)
 
-pub above_whole : (ty : Types) (rule : Rule) (c : Content) (id : ℕ) (n : List ℕ) (es : List EdgeTo) (i : ℕ) (all : List NodeType) → Holds c id (tree_over c.trees n es) → i ≤ 0 → IsSetOf (IsAbove ty rule (left c n es i)) all →
+pub above_whole : (ty : Types) (rule : Rule) (c : Content) (id : ℕ) (n : List ℕ) (es : List EdgeTo) (i : ℕ) (all : List NodeType) →
+    Holds c id (tree_over c.trees n es) → i ≤ 0 → IsSetOf (IsAbove ty rule (left c n es i)) all →
     IsSetOf (IsAbove ty rule (tree_at c id)) all
 above_whole ty rule c id n es zero all h le set = subst (λ (t : Plain). IsSetOf (IsAbove ty rule t) all) (sym (at_holds c id (tree_over c.trees n es) h)) (start es set)
   where
@@ -149,18 +157,24 @@ module _ (eq : Equation) (rule : Rule) (equation : IsEquation eq) (is_rule : IsR
   nil-above (bare n) h = inl refl
   nil-above (graft k p c t) h = in_above eq.types rule k p c t [] [] [] [] (nil-at k c h.0) (nil-above c h.1) (nil-above t h.2) refl
 
-  many-others : (k : ℕ) (p : List ℕ) (c t : Plain) → ConformsAbove eq.types rule (graft k p c t) → HasMany (IsAbove eq.types rule t) → HasMany (IsAbove eq.types rule (graft k p c t))
+  many-others : (k : ℕ) (p : List ℕ) (c t : Plain) → ConformsAbove eq.types rule (graft k p c t) →
+      HasMany (IsAbove eq.types rule t) → HasMany (IsAbove eq.types rule (graft k p c t))
   many-others k p c t h =
       many_more (IsAbove eq.types rule t) (IsAbove eq.types rule (graft k p c t))
       (λ es m. in_above eq.types rule k p c t [] [] es es (nil-at k c h.0) (nil-above c h.1) m refl)
 
-  many-left : (c : Content) (n : List ℕ) (es : List EdgeTo) (i : ℕ) → ConformsAbove eq.types rule (tree_over c.trees n es) → HasMany (IsAbove eq.types rule (tree_over c.trees n (drop i es))) → HasMany (IsAbove eq.types rule (tree_over c.trees n es))
+  many-left : (c : Content) (n : List ℕ) (es : List EdgeTo) (i : ℕ) →
+      ConformsAbove eq.types rule (tree_over c.trees n es) →
+      HasMany (IsAbove eq.types rule (tree_over c.trees n (drop i es))) →
+      HasMany (IsAbove eq.types rule (tree_over c.trees n es))
   many-left c n [] zero h m = m
   many-left c n [] (suc i) h m = m
   many-left c n (e ∷ es) zero h m = m
   many-left c n (e ∷ es) (suc i) h m = many-others e.kind.0 e.p.entries (tree_at c e.child.0) (tree_over c.trees n es) h (many-left c n es i h.2 m)
 
-  conforms-left : (c : Content) (n : List ℕ) (es : List EdgeTo) (i : ℕ) → ConformsAbove eq.types rule (tree_over c.trees n es) → ConformsAbove eq.types rule (tree_over c.trees n (drop i es))
+  conforms-left : (c : Content) (n : List ℕ) (es : List EdgeTo) (i : ℕ) →
+      ConformsAbove eq.types rule (tree_over c.trees n es) →
+      ConformsAbove eq.types rule (tree_over c.trees n (drop i es))
   conforms-left c n [] zero h = h
   conforms-left c n [] (suc i) h = h
   conforms-left c n (e ∷ es) zero h = h

@@ -156,7 +156,8 @@ most-plus a b (x ∷ xs) (y ∷ ys) h k =
     let two : y ≤ b = k.0 in
     (omega (arith, one, two), most-plus a b xs ys h.1 k.1)
 
-most-raised : (a b : ℕ) (n : List ℕ) (ms rs : List EdgeLabel) → AllByRecursion (λ m. m ≤ b) n → AllByRecursion (HasEntries a) ms → IsRaised n ms rs → AllByRecursion (HasEntries (a + b)) rs
+most-raised : (a b : ℕ) (n : List ℕ) (ms rs : List EdgeLabel) → AllByRecursion (λ m. m ≤ b) n →
+    AllByRecursion (HasEntries a) ms → IsRaised n ms rs → AllByRecursion (HasEntries (a + b)) rs
 most-raised a b n [] [] most small h = tt
 most-raised a b n [] (r ∷ rs) most small h = absurd h
 most-raised a b n (m ∷ ms) [] most small h = absurd h
@@ -202,7 +203,8 @@ module _ (ns : List NodeType) (are : AreChoices ns) (n : List ℕ) (directions :
   pub raised_start : IsSetOf (IsRaisedOf (so_far 0 0 n) ns) ns
   raised_start = subst (λ l. IsSetOf (IsRaisedOf l ns) ns) (sym (so_far-start n)) start
 
-  more : (d : ℕ) (m : List ℕ) (found : List NodeType) → d < 5 → IsSetOf (IsRaisedOf m ns) found → (es : List EdgeLabel) → IsWithBumped d found es → IsRaisedOf (plus_of (unit_at d) m) ns es
+  more : (d : ℕ) (m : List ℕ) (found : List NodeType) → d < 5 → IsSetOf (IsRaisedOf m ns) found →
+      (es : List EdgeLabel) → IsWithBumped d found es → IsRaisedOf (plus_of (unit_at d) m) ns es
   more d m found lt old es h =
       elim h [
         | inl same ↦
@@ -213,7 +215,9 @@ module _ (ns : List NodeType) (are : AreChoices ns) (n : List ℕ) (directions :
             (p.0, p.1, raised_from-more d m (labels p.0) (labels bumped.0) es (wide d (labels p.0) lt (are.choices p.0 p.1)) p.2 bumped.2)
       ]
 
-  less : (d : ℕ) (m : List ℕ) (found : List NodeType) → d < 5 → length m ≡ 5 → IsSetOf (IsRaisedOf m ns) found → (es : List EdgeLabel) → IsRaisedOf (plus_of (unit_at d) m) ns es → IsWithBumped d found es
+  less : (d : ℕ) (m : List ℕ) (found : List NodeType) → d < 5 → length m ≡ 5 →
+      IsSetOf (IsRaisedOf m ns) found → (es : List EdgeLabel) →
+      IsRaisedOf (plus_of (unit_at d) m) ns es → IsWithBumped d found es
   less d m found lt long old es h =
       elim (raised_from-less d m (labels h.0) es (omega (arith, lt, long)) (wide d (labels h.0) lt (are.choices h.0 h.1)) h.2) [
         | inl before ↦ let there = old.all es (h.0, h.1, before) in inl (there.0, there.1, there.2)
@@ -223,7 +227,9 @@ module _ (ns : List NodeType) (are : AreChoices ns) (n : List ℕ) (directions :
       ]
 
   -- one more unit
-  pub raised_unit : (d i : ℕ) (found next : List NodeType) → d < 5 → IsSetOf (IsRaisedOf (so_far d i n) ns) found → IsSetOf (IsWithBumped d found) next → IsSetOf (IsRaisedOf (so_far d (i + 1) n) ns) next
+  pub raised_unit : (d i : ℕ) (found next : List NodeType) → d < 5 →
+      IsSetOf (IsRaisedOf (so_far d i n) ns) found → IsSetOf (IsWithBumped d found) next →
+      IsSetOf (IsRaisedOf (so_far d (i + 1) n) ns) next
   raised_unit d i found next lt old new =
       let m = so_far d i n in
       let long : length m ≡ 5 = so_far-length d i n ∙ directions in
@@ -232,7 +238,9 @@ module _ (ns : List NodeType) (are : AreChoices ns) (n : List ℕ) (directions :
       (set_by (IsWithBumped d found) (IsRaisedOf (plus_of (unit_at d) m) ns) next (more d m found lt old) (less d m found lt long old) new)
 
   -- the next direction
-  pub raised_next : (d i z : ℕ) (found : List NodeType) → d < 5 → i ≡ get_or n d z → IsSetOf (IsRaisedOf (so_far d i n) ns) found → IsSetOf (IsRaisedOf (so_far (d + 1) 0 n) ns) found
+  pub raised_next : (d i z : ℕ) (found : List NodeType) → d < 5 → i ≡ get_or n d z →
+      IsSetOf (IsRaisedOf (so_far d i n) ns) found →
+      IsSetOf (IsRaisedOf (so_far (d + 1) 0 n) ns) found
   raised_next d i z found lt is old =
       let next : so_far d i n ≡ so_far (d + 1) 0 n = ap (λ k. so_far d k n) is ∙ so_far-next d n z (omega (arith, lt, directions)) in
       subst (λ l. IsSetOf (IsRaisedOf l ns) found) next old
@@ -241,7 +249,9 @@ module _ (ns : List NodeType) (are : AreChoices ns) (n : List ℕ) (directions :
   raised_end d found le old = subst (λ l. IsSetOf (IsRaisedOf l ns) found) (so_far-end d n (omega (arith, le, directions))) old
 
   -- what is too large after a unit is so at the end
-  pub raised_many : (d i z : ℕ) (found : List NodeType) → d < 5 → i < get_or n d z → IsSetOf (IsRaisedOf (so_far d i n) ns) found → HasMany (IsWithBumped d found) → HasMany (IsRaisedOf n ns)
+  pub raised_many : (d i z : ℕ) (found : List NodeType) → d < 5 → i < get_or n d z →
+      IsSetOf (IsRaisedOf (so_far d i n) ns) found → HasMany (IsWithBumped d found) →
+      HasMany (IsRaisedOf n ns)
   raised_many d i z found lt le old many =
       let m = so_far d i n in
       let within : d < length n = omega (arith, lt, directions) in
@@ -250,7 +260,8 @@ module _ (ns : List NodeType) (are : AreChoices ns) (n : List ℕ) (directions :
       (λ es w. (let p = more d m found lt old es w in (p.0, p.1, raised_from-below (plus_of (unit_at d) m) n (labels p.0) es below p.2)))
       many
 
-  pub raised_small : (d i z : ℕ) (found : List NodeType) → d < 5 → i < get_or n d z → sum n ≤ 4096 → IsSetOf (IsRaisedOf (so_far d i n) ns) found → AreSmallEntries (2 ^ 31) found
+  pub raised_small : (d i z : ℕ) (found : List NodeType) → d < 5 → i < get_or n d z → sum n ≤ 4096 →
+      IsSetOf (IsRaisedOf (so_far d i n) ns) found → AreSmallEntries (2 ^ 31) found
   raised_small d i z found lt le most old x h =
       let below : IsBelow (so_far d i n) n = so_far-below d i n z (omega (arith, lt, directions)) (omega (arith, le)) in
       let p = old.only x h in

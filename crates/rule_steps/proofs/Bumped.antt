@@ -8,12 +8,16 @@ use Rattle.rule_stages.specs.Stages.{join}
 use Rattle.rule_steps.specs.Units.{bump_label, bumped_at, first_bumped}
 
 -- an edge type written over one of a list
-pub label-set : (d i : ℕ) (xs : List EdgeType) (e : EdgeType) → i < length xs → label e ≡ bump_label d (label (get_or xs i e)) → map label (slice_set xs i e) ≡ bumped_at d i (map label xs)
+pub label-set : (d i : ℕ) (xs : List EdgeType) (e : EdgeType) → i < length xs →
+    label e ≡ bump_label d (label (get_or xs i e)) →
+    map label (slice_set xs i e) ≡ bumped_at d i (map label xs)
 label-set d i [] e lt is = absurd (omega (arith, lt))
 label-set d zero (x ∷ xs) e lt is = ap (λ (l : EdgeLabel). l ∷ map label xs) is
 label-set d (suc i) (x ∷ xs) e lt is = ap (λ (l : List EdgeLabel). label x ∷ l) (label-set d i xs e (omega (arith, lt)) is)
 
-pub bumped_list : (d i : ℕ) (edges items raised : List EdgeType) (e r : EdgeType) → i < length edges → items ≡ edges → e ≡ get_or items i e → label r ≡ bump_label d (label e) → raised ≡ slice_set items i r → map label raised ≡ bumped_at d i (map label edges)
+pub bumped_list : (d i : ℕ) (edges items raised : List EdgeType) (e r : EdgeType) →
+    i < length edges → items ≡ edges → e ≡ get_or items i e → label r ≡ bump_label d (label e) →
+    raised ≡ slice_set items i r → map label raised ≡ bumped_at d i (map label edges)
 bumped_list d i edges items raised e r lt same at up is =
     let place : i < length items = subst (λ (l : List EdgeType). i < length l) (sym same) lt in
     let there : label r ≡ bump_label d (label (get_or items i r)) = up ∙ ap (λ (x : EdgeType). bump_label d (label x)) (at ∙ found items i e r place) in
@@ -40,7 +44,9 @@ assoc : {X : Type 0} (xs ys zs : List X) → (xs ++ ys) ++ zs ≡ xs ++ (ys ++ z
 assoc [] ys zs = refl
 assoc (x ∷ xs) ys zs = ap (λ l. x ∷ l) (assoc xs ys zs)
 
-pub bumped_step : (d i : ℕ) (es : List EdgeLabel) (old now next : List NodeType) (n : NodeType) → map labels now ≡ map labels old ++ first_bumped d i es → labels n ≡ join (bumped_at d i es) [] → next ≡ now ++ n ∷ [] →
+pub bumped_step : (d i : ℕ) (es : List EdgeLabel) (old now next : List NodeType) (n : NodeType) →
+    map labels now ≡ map labels old ++ first_bumped d i es → labels n ≡ join (bumped_at d i es) [] →
+    next ≡ now ++ n ∷ [] →
     map labels next ≡ map labels old ++ first_bumped d (i + 1) es
 bumped_step d i es old now next n before made is =
     let one : ℕ → List EdgeLabel = λ j. join (bumped_at d j es) [] in

@@ -34,14 +34,17 @@ is_some-map f (Some x) = refl
 without-end : (es : List EdgeType) (i : ℕ) (fs : List EdgeLabel) → length es ≤ i → without (map label (drop i es)) fs ≡ without [] fs
 without-end es i fs h = ap (λ l. without (map label l) fs) (drop_all i es h)
 
-pub all_end : (es rest : List EdgeType) (i : ℕ) (b whole : Bool) → length es ≤ i → b ≡ (length rest == 0) → is_some (without (map label (drop i es)) (map label rest)) ≡ whole → b ≡ whole
+pub all_end : (es rest : List EdgeType) (i : ℕ) (b whole : Bool) → length es ≤ i →
+    b ≡ (length rest == 0) → is_some (without (map label (drop i es)) (map label rest)) ≡ whole →
+    b ≡ whole
 all_end es rest i b whole le is h = is ∙ empty rest ∙ sym (ap is_some (without-end es i (map label rest) le)) ∙ h
   where
     empty : (fs : List EdgeType) → (length fs == 0) ≡ is_some (without [] (map label fs))
     empty [] = refl
     empty (f ∷ fs) = grind (arith, nat_tests)
 
-left-end : (front rest : List EdgeLabel) (o : Option (List EdgeLabel)) → option_map (λ ms. front ++ ms) (without [] rest) ≡ o → is_some o ≡ true → Some front ≡ o
+left-end : (front rest : List EdgeLabel) (o : Option (List EdgeLabel)) →
+    option_map (λ ms. front ++ ms) (without [] rest) ≡ o → is_some o ≡ true → Some front ≡ o
 left-end front [] o h s = ap Some (sym (append-nil front)) ∙ h
 left-end front (r ∷ rest) None h s = absurd cc
 left-end front (r ∷ rest) (Some ms) h s = absurd cc
@@ -76,7 +79,9 @@ from_recursion P [] h = All-nil P
 from_recursion P (x ∷ xs) h = All-cons P x xs h.0 (from_recursion P xs h.1)
 
 -- the edge types of the rule are small
-small_labels : (dims most : ℕ) (es : List EdgeType) → All (λ e. IsMultiIndex dims e.p.entries) es → All (λ e. All (λ m. m ≤ most) e.p.entries) es → AllByRecursion (IsSmallLabel most) (map label es)
+small_labels : (dims most : ℕ) (es : List EdgeType) → All (λ e. IsMultiIndex dims e.p.entries) es →
+    All (λ e. All (λ m. m ≤ most) e.p.entries) es →
+    AllByRecursion (IsSmallLabel most) (map label es)
 small_labels dims most [] h k = tt
 small_labels dims most (e ∷ es) h k = (
   record { directions = (h 0 e (omega arith)).entries; small = by_recursion (λ m. m ≤ most) e.p.entries (k 0 e (omega arith)) },

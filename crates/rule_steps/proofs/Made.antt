@@ -35,10 +35,14 @@ SameCounts es fs = (z : EdgeLabel) → count z es ≡ count z fs
 abbrev Raised : List ℕ → EdgeLabel → List EdgeLabel → EdgeLabel → List EdgeLabel → Type 0
 Raised n m xs r ys = (qs : List EdgeLabel) × IsRaised n (put_label m xs) qs × SameCounts qs (r ∷ ys)
 
-raised-front : (n shift rest : List ℕ) (m r : EdgeLabel) (xs ys : List EdgeLabel) → n ≡ plus_of shift rest → r.0 ≡ m.0 → r.1 ≡ plus_of m.1 shift → IsRaised rest xs ys → put_label m xs ≡ m ∷ xs → Raised n m xs r ys
+raised-front : (n shift rest : List ℕ) (m r : EdgeLabel) (xs ys : List EdgeLabel) →
+    n ≡ plus_of shift rest → r.0 ≡ m.0 → r.1 ≡ plus_of m.1 shift → IsRaised rest xs ys →
+    put_label m xs ≡ m ∷ xs → Raised n m xs r ys
 raised-front n shift rest m r xs ys parted kind label h q = (r ∷ ys, subst (λ l. IsRaised n l (r ∷ ys)) (sym q) (shift, rest, parted, kind, label, h), λ z. refl)
 
-raised-put : (n shift rest : List ℕ) (m r : EdgeLabel) (xs ys : List EdgeLabel) → n ≡ plus_of shift rest → r.0 ≡ m.0 → r.1 ≡ plus_of m.1 shift → IsRaised rest xs ys → Raised n m xs r ys
+raised-put : (n shift rest : List ℕ) (m r : EdgeLabel) (xs ys : List EdgeLabel) →
+    n ≡ plus_of shift rest → r.0 ≡ m.0 → r.1 ≡ plus_of m.1 shift → IsRaised rest xs ys →
+    Raised n m xs r ys
 raised-put n shift rest m r [] ys parted kind label h = raised-front n shift rest m r [] ys parted kind label h refl
 raised-put n shift rest m r (x ∷ xs) [] parted kind label h = absurd h
 raised-put n shift rest m r (x ∷ xs) (y ∷ ys) parted kind label h =
@@ -71,7 +75,8 @@ all-part P (n ∷ ns) (x ∷ xs) h a =
       | inr left ↦ all-part P (n ∷ ns) xs left a.1
     ]
 
-all-lengths : (dims : ℕ) (n : List ℕ) (es : List EdgeType) → length n ≡ 5 → All (λ e. IsMultiIndex dims e.p.entries) es → AllByRecursion (HasLength n) (map label es)
+all-lengths : (dims : ℕ) (n : List ℕ) (es : List EdgeType) → length n ≡ 5 →
+    All (λ e. IsMultiIndex dims e.p.entries) es → AllByRecursion (HasLength n) (map label es)
 all-lengths dims n [] h a = tt
 all-lengths dims n (e ∷ es) h a = ((a 0 e (omega arith)).entries ∙ sym h, all-lengths dims n es h (All-tail (λ (x : EdgeType). IsMultiIndex dims x.p.entries) e es a))
 
@@ -104,10 +109,13 @@ module _ (eq : Equation) (rule : Rule) (equation : IsEquation eq) (is_rule : IsR
   pub options-noise : (k : ℕ) (es : List EdgeLabel) → kind_of eq.types k ≡ Some Noise → options eq.types rule k es ≡ [] ∷ []
   options-noise k es h = rw h refl
 
-  pub options-kernel : (k : ℕ) (es : List EdgeLabel) → kind_of eq.types k ≡ Some Kernel → options eq.types rule k es ≡ options_in (nodes_of_kernel rule.rows k) es
+  pub options-kernel : (k : ℕ) (es : List EdgeLabel) → kind_of eq.types k ≡ Some Kernel →
+      options eq.types rule k es ≡ options_in (nodes_of_kernel rule.rows k) es
   options-kernel k es h = rw h refl
 
-  pub option-in_row : (k : ℕ) (t : Plain) (ms : List EdgeLabel) → IsIn ms (options_in (nodes_of_kernel rule.rows k) (node_type_of t)) → IsInKernelRow rule k (join ms (node_type_of t))
+  pub option-in_row : (k : ℕ) (t : Plain) (ms : List EdgeLabel) →
+      IsIn ms (options_in (nodes_of_kernel rule.rows k) (node_type_of t)) →
+      IsInKernelRow rule k (join ms (node_type_of t))
   option-in_row k t ms h =
       let n = from_flat_map (λ n. listed_option (without (labels n) (node_type_of t))) ms (nodes_of_kernel rule.rows k) h in
       let is = listed (without (labels n.0) (node_type_of t)) n.2 in
@@ -118,7 +126,8 @@ module _ (eq : Equation) (rule : Rule) (equation : IsEquation eq) (is_rule : IsR
       listed None i = absurd i
       listed (Some ns) i = elim i [ inl e ↦ ap Some e | inr none ↦ absurd none ]
 
-  pub addition-is : (k : ℕ) (t : Plain) (rs : List EdgeLabel) → IsAllowedAbove eq.types rule k t → IsIn rs (additions_at eq.types rule k t) → IsAddition eq.types rule k t rs
+  pub addition-is : (k : ℕ) (t : Plain) (rs : List EdgeLabel) → IsAllowedAbove eq.types rule k t →
+      IsIn rs (additions_at eq.types rule k t) → IsAddition eq.types rule k t rs
   addition-is k t rs allowed h =
       let ms = from_flat_map (raisings (root_of t)) rs (options eq.types rule k (node_type_of t)) h in
       let raised = raising-is (root_of t) ms.0 rs ms.2 in
@@ -132,7 +141,9 @@ module _ (eq : Equation) (rule : Rule) (equation : IsEquation eq) (is_rule : IsR
             (ms.0, inr (option-in_row k t ms.0 (subst (IsIn ms.0) (options-kernel k (node_type_of t) kind) ms.1)), raised)
       ]
 
-  kernel-there : (k : ℕ) (t : Plain) (ms rs : List EdgeLabel) → HasTypes eq.types t → IsInKernelRow rule k (join ms (node_type_of t)) → IsRaised (root_of t) ms rs → (qs : List EdgeLabel) × IsIn qs (additions_at eq.types rule k t) × SameCounts qs rs
+  kernel-there : (k : ℕ) (t : Plain) (ms rs : List EdgeLabel) → HasTypes eq.types t →
+      IsInKernelRow rule k (join ms (node_type_of t)) → IsRaised (root_of t) ms rs →
+      (qs : List EdgeLabel) × IsIn qs (additions_at eq.types rule k t) × SameCounts qs rs
   kernel-there k t ms rs types h raised =
       let es = node_type_of t in
       let n = from_kernel_row eq rule equation is_rule k (join ms es) h in
@@ -148,7 +159,9 @@ module _ (eq : Equation) (rule : Rule) (equation : IsEquation eq) (is_rule : IsR
       let chosen = subst (IsIn (join ms [])) (sym (options-kernel k es (kernel_of_row k (join ms es) h))) option in
       (sorted.0, in_flat_map (raisings (root_of t)) sorted.0 (join ms []) (options eq.types rule k es) chosen there, sorted.2)
 
-  addition-there : (k : ℕ) (t : Plain) (rs : List EdgeLabel) → HasTypes eq.types t → IsAddition eq.types rule k t rs → (qs : List EdgeLabel) × IsIn qs (additions_at eq.types rule k t) × SameCounts qs rs
+  addition-there : (k : ℕ) (t : Plain) (rs : List EdgeLabel) → HasTypes eq.types t →
+      IsAddition eq.types rule k t rs →
+      (qs : List EdgeLabel) × IsIn qs (additions_at eq.types rule k t) × SameCounts qs rs
   addition-there k t rs types h =
       elim h.1 [
         | inl noise ↦
@@ -158,7 +171,8 @@ module _ (eq : Equation) (rule : Rule) (equation : IsEquation eq) (is_rule : IsR
         | inr kernel ↦ kernel-there k t h.0 rs types kernel h.2
       ]
 
-  pub above-is : (t : Plain) (rs : List EdgeLabel) → ConformsAbove eq.types rule t → IsIn rs (additions_above eq.types rule t) → AreAdditionsAbove eq.types rule t rs
+  pub above-is : (t : Plain) (rs : List EdgeLabel) → ConformsAbove eq.types rule t →
+      IsIn rs (additions_above eq.types rule t) → AreAdditionsAbove eq.types rule t rs
   above-is (bare n) rs conforms h = elim h [ inl e ↦ sym e | inr none ↦ absurd none ]
   above-is (graft k p c t) rs conforms h =
       let first = from_sums (additions_at eq.types rule k c) (sums (additions_above eq.types rule c) (additions_above eq.types rule t)) rs h in
@@ -177,12 +191,15 @@ module _ (eq : Equation) (rule : Rule) (equation : IsEquation eq) (is_rule : IsR
       (in_sums (additions_at eq.types rule k c) (sums (additions_above eq.types rule c) (additions_above eq.types rule t)) at.0 (join h.1 h.2) at.1
       (in_sums (additions_above eq.types rule c) (additions_above eq.types rule t) h.1 h.2 up others))
 
-  pub additions-are : (k : ℕ) (t : Plain) (rs : List EdgeLabel) → IsAllowedAbove eq.types rule k t → ConformsAbove eq.types rule t → IsIn rs (all_additions eq.types rule k t) → AreAdditions eq.types rule k t rs
+  pub additions-are : (k : ℕ) (t : Plain) (rs : List EdgeLabel) → IsAllowedAbove eq.types rule k t →
+      ConformsAbove eq.types rule t → IsIn rs (all_additions eq.types rule k t) →
+      AreAdditions eq.types rule k t rs
   additions-are k t rs allowed conforms h =
       let first = from_sums (additions_at eq.types rule k t) (additions_above eq.types rule t) rs h in
       (first.0, first.1, addition-is k t first.0 allowed first.2, above-is t first.1 conforms first.3, first.4)
 
-  pub additions-there : (k : ℕ) (t : Plain) (rs : List EdgeLabel) → HasTypes eq.types t → AreAdditions eq.types rule k t rs → IsIn rs (all_additions eq.types rule k t)
+  pub additions-there : (k : ℕ) (t : Plain) (rs : List EdgeLabel) → HasTypes eq.types t →
+      AreAdditions eq.types rule k t rs → IsIn rs (all_additions eq.types rule k t)
   additions-there k t rs types h =
       let at = addition-there k t h.0 types h.2 in
       let up = above-there t h.1 types h.3 in

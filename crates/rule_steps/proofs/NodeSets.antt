@@ -69,7 +69,9 @@ set_short (n ∷ []) h = set_one (λ es. IsIn es (labels n ∷ [])) n (inl refl)
 set_short (n ∷ m ∷ ns) h = absurd (omega (arith, h))
 
 -- the same set by another property
-pub set_by : (P Q : List EdgeLabel → Type 0) (ns : List NodeType) → ((es : List EdgeLabel) → P es → Q es) → ((es : List EdgeLabel) → Q es → P es) → IsSetOf P ns → IsSetOf Q ns
+pub set_by : (P Q : List EdgeLabel → Type 0) (ns : List NodeType) →
+    ((es : List EdgeLabel) → P es → Q es) → ((es : List EdgeLabel) → Q es → P es) → IsSetOf P ns →
+    IsSetOf Q ns
 set_by P Q ns to back h = record {
   ascending = h.ascending;
   all = λ es q. h.all es (back es q);
@@ -77,7 +79,8 @@ set_by P Q ns to back h = record {
 }
 
 -- node types that are put into a set
-pub set_put : (P Q : List EdgeLabel → Type 0) (keys ns : List NodeType) → IsSetOf P keys → ((es : List EdgeLabel) → P es → Q es) → ((es : List EdgeLabel) → AreLabelsIn ns es → Q es) →
+pub set_put : (P Q : List EdgeLabel → Type 0) (keys ns : List NodeType) → IsSetOf P keys →
+    ((es : List EdgeLabel) → P es → Q es) → ((es : List EdgeLabel) → AreLabelsIn ns es → Q es) →
     ((es : List EdgeLabel) → Q es → P es ⊎ AreLabelsIn ns es) → IsSetOf Q (insert_all node_order keys ns)
 set_put P Q keys ns h old new either = record {
   ascending = insert_all_sorted node_order node_order_total keys ns h.ascending;

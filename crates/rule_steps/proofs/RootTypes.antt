@@ -21,23 +21,28 @@ node_type-over : (c : Content) (n : List ℕ) (es : List EdgeTo) → node_type_o
 node_type-over c n [] = refl
 node_type-over c n (e ∷ es) = ap (λ (l : List EdgeLabel). join (edge_label e ∷ []) l) (node_type-over c n es)
 
-pub root_type_is : (c : Content) (id : ℕ) (n : List ℕ) (es : List EdgeTo) (types : List EdgeType) (i : ℕ) (m : NodeType) → Holds c id (tree_over c.trees n es) → length es ≤ i → map label types ≡ map edge_label (take i es) → labels m ≡ join (map label types) [] →
+pub root_type_is : (c : Content) (id : ℕ) (n : List ℕ) (es : List EdgeTo) (types : List EdgeType) (i : ℕ) (m : NodeType) →
+    Holds c id (tree_over c.trees n es) → length es ≤ i →
+    map label types ≡ map edge_label (take i es) → labels m ≡ join (map label types) [] →
     labels m ≡ node_type_of (tree_at c id)
 root_type_is c id n es types i m h end same is =
     is ∙ ap (λ (l : List EdgeLabel). join l []) (same ∙ ap (map edge_label) (all_taken es i end)) ∙ sym (node_type-over c n es) ∙ ap node_type_of (sym (at_holds c id (tree_over c.trees n es) h))
 
 -- what is added at a root, by what was read there
-same_added : (ty : Types) (rule : Rule) (k : ℕ) (c : Content) (id : ℕ) (n : List ℕ) (es : List EdgeTo) (m : NodeType) (edges : List EdgeType) → Holds c id (tree_over c.trees n es) → edges ≡ m.edges → labels m ≡ node_type_of (tree_at c id) →
+same_added : (ty : Types) (rule : Rule) (k : ℕ) (c : Content) (id : ℕ) (n : List ℕ) (es : List EdgeTo) (m : NodeType) (edges : List EdgeType) →
+    Holds c id (tree_over c.trees n es) → edges ≡ m.edges → labels m ≡ node_type_of (tree_at c id) →
     IsAdditionTo ty rule k n (map label edges) ≡ IsAdditionAt ty rule k (tree_at c id)
 same_added ty rule k c id n es m edges h read type =
     let types : map label edges ≡ node_type_of (tree_at c id) = ap (map label) read ∙ type in
     ap (λ (l : List ℕ). IsAdditionTo ty rule k l (map label edges)) (sym (root_at c id n es h)) ∙ ap (IsAdditionTo ty rule k (root_of (tree_at c id))) types
 
-pub set_at_root : (ty : Types) (rule : Rule) (k : ℕ) (c : Content) (id : ℕ) (n : List ℕ) (es : List EdgeTo) (m : NodeType) (edges : List EdgeType) (all : List NodeType) → Holds c id (tree_over c.trees n es) → edges ≡ m.edges →
+pub set_at_root : (ty : Types) (rule : Rule) (k : ℕ) (c : Content) (id : ℕ) (n : List ℕ) (es : List EdgeTo) (m : NodeType) (edges : List EdgeType) (all : List NodeType) →
+    Holds c id (tree_over c.trees n es) → edges ≡ m.edges →
     labels m ≡ node_type_of (tree_at c id) → IsSetOf (IsAdditionTo ty rule k n (map label edges)) all → IsSetOf (IsAdditionAt ty rule k (tree_at c id)) all
 set_at_root ty rule k c id n es m edges all h read type = subst (λ P. IsSetOf P all) (same_added ty rule k c id n es m edges h read type)
 
-pub many_at_root : (ty : Types) (rule : Rule) (k : ℕ) (c : Content) (id : ℕ) (n : List ℕ) (es : List EdgeTo) (m : NodeType) (edges : List EdgeType) → Holds c id (tree_over c.trees n es) → edges ≡ m.edges → labels m ≡ node_type_of (tree_at c id) →
+pub many_at_root : (ty : Types) (rule : Rule) (k : ℕ) (c : Content) (id : ℕ) (n : List ℕ) (es : List EdgeTo) (m : NodeType) (edges : List EdgeType) →
+    Holds c id (tree_over c.trees n es) → edges ≡ m.edges → labels m ≡ node_type_of (tree_at c id) →
     HasMany (IsAdditionTo ty rule k n (map label edges)) → HasMany (IsAdditionAt ty rule k (tree_at c id))
 many_at_root ty rule k c id n es m edges h read type = subst HasMany (same_added ty rule k c id n es m edges h read type)
 

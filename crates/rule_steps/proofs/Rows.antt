@@ -25,7 +25,9 @@ use Rattle.conforming_trees.specs.Conforming.{EdgeLabel, edge_label_order, label
 use Rattle.conforming_trees.proofs.Labels.{edge_label_total, IsInLabelOrder}
 use Rattle.rule_steps.specs.Sums.{nodes_of_kernel}
 
-not_below : (e : EdgeType) (fs : List EdgeType) → AllByRecursion (λ y. is_lt (edge_type_order y (pair_of e)) ≡ false) (map pair_of fs) → AllByRecursion (λ y. is_lt (edge_label_order y (label e)) ≡ false) (map label fs)
+not_below : (e : EdgeType) (fs : List EdgeType) →
+    AllByRecursion (λ y. is_lt (edge_type_order y (pair_of e)) ≡ false) (map pair_of fs) →
+    AllByRecursion (λ y. is_lt (edge_label_order y (label e)) ≡ false) (map label fs)
 not_below e [] h = tt
 not_below e (f ∷ fs) h = (h.0, not_below e fs h.1)
 
@@ -39,7 +41,8 @@ abbrev number : TypeId → ℕ
 number k = k.0
 
 -- the row of a kernel
-pub in_rows : (rows : List RuleRow) (k : ℕ) (n : NodeType) → IsIn n (nodes_of_kernel rows k) → (row : RuleRow) × IsIn row rows × (row.kernel.0 ≡ k) × IsIn n row.nodes
+pub in_rows : (rows : List RuleRow) (k : ℕ) (n : NodeType) → IsIn n (nodes_of_kernel rows k) →
+    (row : RuleRow) × IsIn row rows × (row.kernel.0 ≡ k) × IsIn n row.nodes
 in_rows [] k n h = absurd h
 in_rows (row ∷ rows) k n h = at (row.kernel.0 == k) refl h (in_rows rows k n)
   where
@@ -63,7 +66,9 @@ not_same i k h = grind (arith, nat_tests, h)
 same_number : (k : ℕ) → (k == k) ≡ true
 same_number k = grind (arith, nat_tests)
 
-row_is : (rows : List RuleRow) (a n : ℕ) (row : RuleRow) → map (λ (r : RuleRow). r.kernel.0) rows ≡ range_with_len a n → IsIn row rows → nodes_of_kernel rows row.kernel.0 ≡ row.nodes
+row_is : (rows : List RuleRow) (a n : ℕ) (row : RuleRow) →
+    map (λ (r : RuleRow). r.kernel.0) rows ≡ range_with_len a n → IsIn row rows →
+    nodes_of_kernel rows row.kernel.0 ≡ row.nodes
 row_is [] a n row h i = absurd i
 row_is (r ∷ rows) a zero row h i = absurd cc
 row_is (r ∷ rows) a (suc n) row h (inl e) = subst (λ (x : RuleRow). nodes_of_kernel (r ∷ rows) x.kernel.0 ≡ x.nodes) e (rw (same_number r.kernel.0) refl)

@@ -26,7 +26,8 @@ use Rattle.rule_steps.proofs.NodeSets.{set_by, many_more}
 
 module _ (eq : Equation) (rule : Rule) (equation : IsEquation eq) (is_rule : IsRule eq rule) where
   -- where something can be added above a kernel, the root is allowed there
-  allowed : (k : ℕ) (t : Plain) (rs : List EdgeLabel) → kind_of eq.types k ≡ Some Kernel → IsIn rs (additions_at eq.types rule k t) → IsAllowedAbove eq.types rule k t
+  allowed : (k : ℕ) (t : Plain) (rs : List EdgeLabel) → kind_of eq.types k ≡ Some Kernel →
+      IsIn rs (additions_at eq.types rule k t) → IsAllowedAbove eq.types rule k t
   allowed k t rs kind h =
       let es = node_type_of t in
       let ms = from_flat_map (raisings (root_of t)) rs (options eq.types rule k es) h in
@@ -34,7 +35,9 @@ module _ (eq : Equation) (rule : Rule) (equation : IsEquation eq) (is_rule : IsR
       let sorted = node_type-sorted t in
       inr (row_closed eq rule k es (join ms.0 es) is_rule row (join-part [] ms.0 es es sorted sorted tt (sub_refl es)))
 
-  pub found_is : (k : ℕ) (ts : List Plain) (es : List EdgeLabel) → kind_of eq.types k ≡ Some Kernel → ((t : Plain) → IsIn t ts → IsListed eq rule t) → IsFound eq rule k ts es → IsInNext eq rule k es
+  pub found_is : (k : ℕ) (ts : List Plain) (es : List EdgeLabel) →
+      kind_of eq.types k ≡ Some Kernel → ((t : Plain) → IsIn t ts → IsListed eq rule t) →
+      IsFound eq rule k ts es → IsInNext eq rule k es
   found_is k ts es kind listed h =
       elim h [
         | inl old ↦ inl old

@@ -1,4 +1,5 @@
--- The edge types of the next stage are in order, of known types, and have the directions of the rule.
+-- The edge types of the next stage are in order, of known types, and have the directions of the
+-- rule.
 use Rattle.std.proofs.Common.{◌≡◌, ℕ, zero, suc, ◌≤◌, ◌<◌, true, false, Bool, cond, List, [], ◌∷◌, length, map, drop, refl, sym, ◌∙◌, subst, arith, inl, inr}
 use Rattle.std.specs.List.{All, AllByRecursion}
 use Rattle.std.specs.Ordering.{is_gt}
@@ -118,7 +119,8 @@ join_all : (P : EdgeLabel → Type 0) (es fs : List EdgeLabel) → AllByRecursio
 join_all P [] fs h k = k
 join_all P (e ∷ es) fs h k = put-all P e (join es fs) h.0 (join_all P es fs h.1 k)
 
-known_edges : (ty : Types) (es : List EdgeType) → All (λ e. e.kind.0 < length ty.list) es → All (λ e. IsMultiIndex ty.dims e.p.entries) es → AreKnownLabels ty (map label es)
+known_edges : (ty : Types) (es : List EdgeType) → All (λ e. e.kind.0 < length ty.list) es →
+    All (λ e. IsMultiIndex ty.dims e.p.entries) es → AreKnownLabels ty (map label es)
 known_edges ty [] h k = tt
 known_edges ty (e ∷ es) h k =
     ((h 0 e (omega arith), k 0 e (omega arith)), known_edges ty es (All-tail (λ (x : EdgeType). x.kind.0 < length ty.list) e es h) (All-tail (λ (x : EdgeType). IsMultiIndex ty.dims x.p.entries) e es k))

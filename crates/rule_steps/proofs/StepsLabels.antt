@@ -32,7 +32,9 @@ named_order k n m =
     ap (λ (o : Ordering). ordering_then o (ordering_then (nat_cmp (length (labels n)) (length (labels m))) (slice_cmp edge_label_order (labels n) (labels m)))) (tied_itself nat_cmp_total k) ∙ rest
 
 -- labels in order are those of edge types in order
-above_labels : (e : EdgeType) (fs : List EdgeType) → AllByRecursion (λ y. is_lt (edge_label_order y (label e)) ≡ false) (map label fs) → AllByRecursion (λ y. is_lt (edge_type_order y (pair_of e)) ≡ false) (map pair_of fs)
+above_labels : (e : EdgeType) (fs : List EdgeType) →
+    AllByRecursion (λ y. is_lt (edge_label_order y (label e)) ≡ false) (map label fs) →
+    AllByRecursion (λ y. is_lt (edge_type_order y (pair_of e)) ≡ false) (map pair_of fs)
 above_labels e [] h = tt
 above_labels e (f ∷ fs) h = (h.0, above_labels e fs h.1)
 

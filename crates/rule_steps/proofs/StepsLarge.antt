@@ -52,7 +52,9 @@ all_of_both : {X : Type 0} (P : X → Type 0) (xs ys : List X) → AllByRecursio
 all_of_both P [] ys h k = k
 all_of_both P (x ∷ xs) ys h k = (h.0, all_of_both P xs ys h.1 k)
 
-append_ascends : (c : NodeTypeOf → NodeTypeOf → Ordering) (xs ys : List NodeTypeOf) → IsStrictlySortedBy c xs → IsStrictlySortedBy c ys → ((x y : NodeTypeOf) → IsIn x xs → IsIn y ys → c x y ≡ Less) → IsStrictlySortedBy c (xs ++ ys)
+append_ascends : (c : NodeTypeOf → NodeTypeOf → Ordering) (xs ys : List NodeTypeOf) →
+    IsStrictlySortedBy c xs → IsStrictlySortedBy c ys →
+    ((x y : NodeTypeOf) → IsIn x xs → IsIn y ys → c x y ≡ Less) → IsStrictlySortedBy c (xs ++ ys)
 unfolding IsStrictlySortedBy
 append_ascends c [] ys h k less = k
 append_ascends c (x ∷ xs) ys h k less =
@@ -65,7 +67,9 @@ named row = map (λ n. (row.kernel.0, labels n)) row.nodes
 abbrev pub kernel_numbers : List RuleRow → List ℕ
 kernel_numbers rows = map (λ (r : RuleRow). r.kernel.0) rows
 
-above_named : (k : ℕ) (n : NodeType) (ns : List NodeType) → AllByRecursion (λ m. node_order n m ≡ Less) ns → AllByRecursion (λ y. node_type_of_order (k, labels n) y ≡ Less) (map (λ m. (k, labels m)) ns)
+above_named : (k : ℕ) (n : NodeType) (ns : List NodeType) →
+    AllByRecursion (λ m. node_order n m ≡ Less) ns →
+    AllByRecursion (λ y. node_type_of_order (k, labels n) y ≡ Less) (map (λ m. (k, labels m)) ns)
 above_named k n [] h = tt
 above_named k n (m ∷ ns) h = (named_order k n m ∙ h.0, above_named k n ns h.1)
 
@@ -115,7 +119,8 @@ count_named (row ∷ rows) =
     omega (arith, both, first, rest)
 
 module _ (eq : Equation) (rule : Rule) where
-  too_large : (rows : List RuleRow) → AreAscending (kernel_numbers rows) → AreSorted rows → ((row : RuleRow) (n : NodeType) → IsIn row rows → IsIn n row.nodes → IsInNext eq rule row.kernel.0 (labels n)) →
+  too_large : (rows : List RuleRow) → AreAscending (kernel_numbers rows) → AreSorted rows →
+      ((row : RuleRow) (n : NodeType) → IsIn row rows → IsIn n row.nodes → IsInNext eq rule row.kernel.0 (labels n)) →
       2000 < nodes_in rows → HasTooLargeNext eq rule
   too_large rows ascending sorted inside many =
       let count = count_named rows in
@@ -129,7 +134,9 @@ module _ (eq : Equation) (rule : Rule) where
             subst (λ (k : ℕ). IsInNext eq rule k x.1) (sym n.2) (subst (IsInNext eq rule row.0.kernel.0) (sym n.3) (inside row.0 n.0 row.1 n.1)));
       }
 
-  pub rows_too_large : (rows : List RuleRow) → AreAscending (kernel_numbers rows) → ((row : RuleRow) → IsIn row rows → IsNextRow eq rule row) → 2000 < nodes_in rows → HasTooLargeNext eq rule
+  pub rows_too_large : (rows : List RuleRow) → AreAscending (kernel_numbers rows) →
+      ((row : RuleRow) → IsIn row rows → IsNextRow eq rule row) → 2000 < nodes_in rows →
+      HasTooLargeNext eq rule
   unfolding AreSorted
   rows_too_large rows ascending sets many = too_large rows ascending (λ row i. (sets row i).ascending) (λ row n i j. (sets row i).only n j) many
 

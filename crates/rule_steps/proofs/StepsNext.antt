@@ -26,14 +26,18 @@ all_of_members : {X : Type 0} (P : X → Type 0) (xs : List X) → ((x : X) → 
 all_of_members P [] h = All-nil P
 all_of_members P (x ∷ xs) h = All-cons P x xs (h x (inl refl)) (all_of_members P xs (λ y i. h y (inr i)))
 
-all_nodes : (P : NodeType → Type 0) (rows : List RuleRow) → ((row : RuleRow) (n : NodeType) → IsIn row rows → IsIn n row.nodes → P n) → All (λ row. All P row.nodes) rows
+all_nodes : (P : NodeType → Type 0) (rows : List RuleRow) →
+    ((row : RuleRow) (n : NodeType) → IsIn row rows → IsIn n row.nodes → P n) →
+    All (λ row. All P row.nodes) rows
 all_nodes P rows h = all_of_members (λ (row : RuleRow). All P row.nodes) rows (λ row i. all_of_members P row.nodes (λ n j. h row n i j))
 
 abbrev kernel_at : RuleRow → TypeId
 kernel_at row = row.kernel
 
 -- rows of the same kernels
-same_kernel : (rows others : List RuleRow) (row : RuleRow) → map (λ (r : RuleRow). r.kernel) rows ≡ map (λ (r : RuleRow). r.kernel) others → IsIn row rows → (r : RuleRow) × IsIn r others × (r.kernel ≡ row.kernel)
+same_kernel : (rows others : List RuleRow) (row : RuleRow) →
+    map (λ (r : RuleRow). r.kernel) rows ≡ map (λ (r : RuleRow). r.kernel) others → IsIn row rows →
+    (r : RuleRow) × IsIn r others × (r.kernel ≡ row.kernel)
 same_kernel rows others row same i = from_map kernel_at row.kernel others (subst (IsIn row.kernel) same (in_map kernel_at row rows i))
 
 module _ (eq : Equation) (rule : Rule) (equation : IsEquation eq) (is_rule : IsRule eq rule) where

@@ -40,7 +40,9 @@ module _ (eq : Equation) (rule : Rule) where
   pub rows_none : HasNextRows eq rule (take 0 rule.rows) []
   rows_none = record { kernels = refl; next = λ row i. absurd i }
 
-  pub rows_step : (i : ℕ) (row : RuleRow) (ns : List NodeType) (rows next : List RuleRow) → i < length rule.rows → row ≡ get_or rule.rows i row → HasNextRows eq rule (take i rule.rows) rows →
+  pub rows_step : (i : ℕ) (row : RuleRow) (ns : List NodeType) (rows next : List RuleRow) →
+      i < length rule.rows → row ≡ get_or rule.rows i row →
+      HasNextRows eq rule (take i rule.rows) rows →
       IsSetOf (IsInNext eq rule row.kernel.0) ns → next ≡ rows ++ row_made row.kernel ns ∷ [] → HasNextRows eq rule (take (i + 1) rule.rows) next
   rows_step i row ns rows next lt is h set made =
       let one : take (i + 1) rule.rows ≡ take i rule.rows ++ row ∷ [] = take_more rule.rows i row lt ∙ ap (λ (x : RuleRow). take i rule.rows ++ x ∷ []) (sym is) in

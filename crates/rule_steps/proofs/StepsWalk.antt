@@ -31,7 +31,8 @@ from_take [] (suc i) x h = absurd h
 from_take (y ∷ ys) zero x h = absurd h
 from_take (y ∷ ys) (suc i) x h = elim h [ inl e ↦ inl e | inr r ↦ inr (from_take ys i x r) ]
 
-found_put : (eq : Equation) (rule : Rule) (k : ℕ) (ts : List Plain) (t : Plain) (keys ns : List NodeType) → IsSetOf (IsFound eq rule k ts) keys → IsSetOf (IsMadeOf eq.types rule k t) ns →
+found_put : (eq : Equation) (rule : Rule) (k : ℕ) (ts : List Plain) (t : Plain) (keys ns : List NodeType) →
+    IsSetOf (IsFound eq rule k ts) keys → IsSetOf (IsMadeOf eq.types rule k t) ns →
     IsSetOf (IsFound eq rule k (ts ++ t ∷ [])) (insert_all node_order keys ns)
 found_put eq rule k ts t keys ns h made =
     set_put (IsFound eq rule k ts) (IsFound eq rule k (ts ++ t ∷ [])) keys ns h
@@ -68,7 +69,9 @@ module _ (eq : Equation) (rule : Rule) (equation : IsEquation eq) (is_rule : IsR
       (λ es f. inr (row_found.all es f))
 
   -- before the first tree
-  pub found_first : (nodes copies keys next : List NodeType) → nodes ≡ row.nodes → copies ≡ nodes → keys ≡ [] → next ≡ insert_all node_order keys copies → IsSetOf (IsFound eq rule row.kernel.0 []) next
+  pub found_first : (nodes copies keys next : List NodeType) → nodes ≡ row.nodes → copies ≡ nodes →
+      keys ≡ [] → next ≡ insert_all node_order keys copies →
+      IsSetOf (IsFound eq rule row.kernel.0 []) next
   found_first nodes copies keys next of copied empty put =
       let same : next ≡ insert_all node_order [] row.nodes = put ∙ ap (λ (l : List NodeType). insert_all node_order l copies) empty ∙ ap (insert_all node_order []) (copied ∙ of) in
       subst (IsSetOf (IsFound eq rule row.kernel.0 [])) (sym same) row_put

@@ -63,7 +63,8 @@ counts-member q (x ∷ xs) h = at (edge_label_order q x) refl (counts-member q x
     at Greater e later = inr (later (let none = ap one_if e in omega (arith, h, none)))
 
 -- a list in order, raised in one place, and the list before it was put in order
-in_order : (d : ℕ) (qs ls rs : List EdgeLabel) → ((z : EdgeLabel) → count z ls ≡ count z qs) → IsBumped d qs rs → (ss : List EdgeLabel) × IsBumped d ls ss × (join ss [] ≡ join rs [])
+in_order : (d : ℕ) (qs ls rs : List EdgeLabel) → ((z : EdgeLabel) → count z ls ≡ count z qs) →
+    IsBumped d qs rs → (ss : List EdgeLabel) × IsBumped d ls ss × (join ss [] ≡ join rs [])
 unfolding Moved
 in_order d qs ls rs same h =
     let q = bumped-member d qs rs h in
@@ -76,7 +77,9 @@ in_order d qs ls rs same h =
     )
 
 -- one more unit: what there was, and each of these raised by it
-pub raised_from-more : (d : ℕ) (n : List ℕ) (ms es fs : List EdgeLabel) → AllByRecursion (HasDirection d) ms → IsRaisedFrom n ms es → IsBumpedFrom d es fs → IsRaisedFrom (plus_of (unit_at d) n) ms fs
+pub raised_from-more : (d : ℕ) (n : List ℕ) (ms es fs : List EdgeLabel) →
+    AllByRecursion (HasDirection d) ms → IsRaisedFrom n ms es → IsBumpedFrom d es fs →
+    IsRaisedFrom (plus_of (unit_at d) n) ms fs
 raised_from-more d n ms es fs wide h b =
     let same : (z : EdgeLabel) → count z h.0 ≡ count z es = λ z. (let a = ap (count z) h.2 in let c = count-join z h.0 [] in omega (arith, a, c)) in
     let back = in_order d es h.0 b.0 same b.1 in
@@ -85,7 +88,8 @@ raised_from-more d n ms es fs wide h b =
 pub raised_from-same : (d : ℕ) (n : List ℕ) (ms es : List EdgeLabel) → IsRaisedFrom n ms es → IsRaisedFrom (plus_of (unit_at d) n) ms es
 raised_from-same d n ms es h = (h.0, raised-more (unit_at d) n ms h.0 h.1, h.2)
 
-pub raised_from-less : (d : ℕ) (n : List ℕ) (ms fs : List EdgeLabel) → d < length n → AllByRecursion (HasDirection d) ms → IsRaisedFrom (plus_of (unit_at d) n) ms fs →
+pub raised_from-less : (d : ℕ) (n : List ℕ) (ms fs : List EdgeLabel) → d < length n →
+    AllByRecursion (HasDirection d) ms → IsRaisedFrom (plus_of (unit_at d) n) ms fs →
     IsRaisedFrom n ms fs ⊎ ((es : List EdgeLabel) × IsRaisedFrom n ms es × IsBumpedFrom d es fs)
 raised_from-less d n ms fs long wide h =
     elim (one_less d n ms h.0 long wide h.1) [

@@ -74,7 +74,9 @@ swap : (u m s : List ℕ) → plus_of u (plus_of m s) ≡ plus_of m (plus_of u s
 swap u m s = sym (plus_assoc u m s) ∙ ap (λ l. plus_of l s) (plus_comm u m) ∙ plus_assoc m u s
 
 -- with one more unit there is what there was, and each of these raised by it
-pub one_more : (d : ℕ) (n : List ℕ) (ms qs rs : List EdgeLabel) → AllByRecursion (HasDirection d) ms → IsRaised n ms qs → IsBumped d qs rs → IsRaised (plus_of (unit_at d) n) ms rs
+pub one_more : (d : ℕ) (n : List ℕ) (ms qs rs : List EdgeLabel) →
+    AllByRecursion (HasDirection d) ms → IsRaised n ms qs → IsBumped d qs rs →
+    IsRaised (plus_of (unit_at d) n) ms rs
 one_more d n [] [] rs wide h b = absurd b
 one_more d n [] (q ∷ qs) rs wide h b = absurd h
 one_more d n (m ∷ ms) [] rs wide h b = absurd h
@@ -95,7 +97,8 @@ one_more d n (m ∷ ms) (q ∷ qs) (r ∷ rs) wide h b =
 abbrev pub MoreFrom : ℕ → List ℕ → List EdgeLabel → List EdgeLabel → Type 0
 MoreFrom d n ms rs = IsRaised n ms rs ⊎ ((qs : List EdgeLabel) × IsRaised n ms qs × IsBumped d qs rs)
 
-pub one_less : (d : ℕ) (n : List ℕ) (ms rs : List EdgeLabel) → d < length n → AllByRecursion (HasDirection d) ms → IsRaised (plus_of (unit_at d) n) ms rs → MoreFrom d n ms rs
+pub one_less : (d : ℕ) (n : List ℕ) (ms rs : List EdgeLabel) → d < length n →
+    AllByRecursion (HasDirection d) ms → IsRaised (plus_of (unit_at d) n) ms rs → MoreFrom d n ms rs
 unfolding OfFirst OfSecond
 one_less d n [] [] long wide h = inl tt
 one_less d n [] (r ∷ rs) long wide h = absurd h

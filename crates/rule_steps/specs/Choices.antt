@@ -1,10 +1,14 @@
 -- What can be added at a node, as it is found: the choices, then these raised unit by unit.
+-- Working notions of the code and of proofs, which no contract of a public call names:
 --   after e fs == the list fs behind its first edge type, where that is e
---   IsSmallLabel most e == the derivatives of e have five directions, and no entry greater than most
+--   IsSmallLabel most e == the derivatives of e have five directions, and no entry greater than
+--       most
 --   IsChoice es == es are edge types in order, and small
 --   AreChoices ns == ns are in their order, each once, and the edge types of each are a choice
---   IsRaisedOf n ns es == es are the edge types of one of ns, raised by at most n together, in order
---   IsBumpedOf d ns es == es are the edge types of one of ns, with one of them raised by one in direction d, in order
+--   IsRaisedOf n ns es == es are the edge types of one of ns, raised by at most n together, in
+--       order
+--   IsBumpedOf d ns es == es are the edge types of one of ns, with one of them raised by one in
+--       direction d, in order
 --   IsWithBumped d ns es == es are the edge types of one of ns, or so raised
 use Rattle.std.specs.Prelude.{◌≡◌, ◌≤◌, ◌^◌, ℕ, List, [], ◌∷◌, ◌⊎◌, length, IsSorted, if◌then◌else◌}
 use Rattle.std.specs.List.{AllByRecursion}

@@ -1,14 +1,23 @@
 -- Sets of node types, by their edge types.
+-- What contracts of public calls say:
+--   AreSmallEdges most n == no entry of a derivative decoration in the node type n is greater than
+--       most
+--   AreSmallEntries most ns == so it is with each of ns
+--   AreSmallRows most rows, IsSmallRule most rule == so it is with each node type of the rows, of
+--       the rule
+-- Working notions of the code and of proofs:
 --   HasAll P ns == ns holds, by their labels, all lists of edge types with the property P
 --   HasOnly P ns == ns holds no other
 --   IsSetOf P ns == ns are in their order, each once, and both
---   HasMany P == more than 2,000 node types have, by their labels, the property P
---   IsSumOf xs ys es == es are the edge types of one of the node types xs and of one of the node types ys together
---   IsAdditionTo ty rule k n es fs == fs are edge types that can be added to a node with the decoration n and the edge types es, above an edge of type k: an addition, in order
+--   HasMany P == more than 2,000 node types (`MOST_NODE_TYPES`) have, by their labels, the property
+--       P
+--   IsSumOf xs ys es == es are the edge types of one of the node types xs and of one of the node
+--       types ys together
+--   IsAdditionTo ty rule k n es fs == fs are edge types that can be added to a node with the
+--       decoration n and the edge types es, above an edge of type k: an addition, in order
 --   IsAdditionAt ty rule k t es == so it is with es and the root of t
 --   IsRaisedFrom n ms es == es are the edge types ms, raised by at most n together, in order
 --   IsBumpedFrom d es fs == fs are es with one of them raised by one in direction d, in order
---   AreSmallEntries most ns == no entry of a derivative decoration in ns is greater than most
 use Rattle.std.specs.Prelude.{◌≡◌, ◌≤◌, ◌<◌, ℕ, List, [], length}
 use Rattle.std.specs.List.{All}
 use Rattle.std.specs.List.Sorted.{IsStrictlySortedBy}
@@ -45,7 +54,8 @@ abbrev pub IsSumOf : List NodeType → List NodeType → List EdgeLabel → Type
 IsSumOf xs ys es = (x y : NodeType) × IsIn x xs × IsIn y ys × (es ≡ join (labels x) (labels y))
 
 abbrev pub IsAdditionTo : Types → Rule → ℕ → List ℕ → List EdgeLabel → List EdgeLabel → Type 0
-IsAdditionTo ty rule k n es fs = (rs : List EdgeLabel) × IsIn rs (additions_to ty rule k n es) × (fs ≡ join rs [])
+IsAdditionTo ty rule k n es fs = (rs : List EdgeLabel) × IsIn rs (additions_to ty rule k n es)
+    × (fs ≡ join rs [])
 
 abbrev pub IsAdditionAt : Types → Rule → ℕ → Plain → List EdgeLabel → Type 0
 IsAdditionAt ty rule k t es = IsAdditionTo ty rule k (root_of t) (node_type_of t) es

@@ -1,9 +1,17 @@
 -- What a listed tree makes, as it is found: node by node, the sums of what can be added there.
+-- Working notions of the code and of proofs, which no contract of a public call names:
 --   without es fs == the list es without those of fs, each once, where they all stand there
---   raisings n ms == all ways to raise the edge types ms by multiindices that are together at most n
---   row_of rule k == the node types of the row of kernel k
---   options ty rule k es == the edge types that can be added to es so that the rule of type k allows them together
---   additions_to ty rule k n es == all additions at a node with the decoration n and the edge types es, above an edge of type k
+--   raisings n ms == all ways to raise the edge types ms by multiindices that are together at most
+--       n
+--   nodes_of_kernel rows k == the node types of the row of kernel k
+--   listed_option x == the list of what is there: one, or none
+--   options_in ns es == the edge types that can be added to es to make one of the node types ns
+--   options_by kind rule k es == the same for the node types of the rule of k; above a noise no
+--       edge alone
+--   options ty rule k es == the edge types that can be added to es so that the rule of type k
+--       allows them together
+--   additions_to ty rule k n es == all additions at a node with the decoration n and the edge types
+--       es, above an edge of type k
 --   additions_at ty rule k t == all additions at the root of t, above an edge of type k
 --   sums xs ys == each of xs with each of ys together
 --   additions_above ty rule t == all additions above the root of t together
@@ -29,11 +37,13 @@ use Rattle.rule_stages.specs.Stages.{join}
 abbrev pub without : List EdgeLabel → List EdgeLabel → Option (List EdgeLabel)
 without es [] = Some es
 without [] (f ∷ fs) = None
-without (e ∷ es) (f ∷ fs) = if is_eq (edge_label_order e f) then without es fs else option_map (λ ms. e ∷ ms) (without es (f ∷ fs))
+without (e ∷ es) (f ∷ fs) = if is_eq (edge_label_order e f) then without es fs
+    else option_map (λ ms. e ∷ ms) (without es (f ∷ fs))
 
 abbrev pub raisings : List ℕ → List EdgeLabel → List (List EdgeLabel)
 raisings n [] = [] ∷ []
-raisings n (m ∷ ms) = flat_map (λ s. map (λ rs. (m.0, plus_of m.1 s) ∷ rs) (raisings (minus_of n s) ms)) (below n)
+raisings n (m ∷ ms) =
+    flat_map (λ s. map (λ rs. (m.0, plus_of m.1 s) ∷ rs) (raisings (minus_of n s) ms)) (below n)
 
 abbrev pub nodes_of_kernel : List RuleRow → ℕ → List NodeType
 nodes_of_kernel [] k = []
@@ -66,7 +76,8 @@ sums xs ys = flat_map (λ x. map (join x) ys) xs
 
 abbrev pub additions_above : Types → Rule → Plain → List (List EdgeLabel)
 additions_above ty rule (bare n) = [] ∷ []
-additions_above ty rule (graft k p c t) = sums (additions_at ty rule k c) (sums (additions_above ty rule c) (additions_above ty rule t))
+additions_above ty rule (graft k p c t) =
+    sums (additions_at ty rule k c) (sums (additions_above ty rule c) (additions_above ty rule t))
 
 abbrev pub all_additions : Types → Rule → ℕ → Plain → List (List EdgeLabel)
 all_additions ty rule k t = sums (additions_at ty rule k t) (additions_above ty rule t)

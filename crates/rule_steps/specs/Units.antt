@@ -1,7 +1,11 @@
 -- Edge types raised by one unit in a direction: the step by which raised edge types are found.
+-- Working notions of the code and of proofs, which no contract of a public call names:
 --   bump d m == the multiindex m with one more in direction d
 --   bump_label d e == the edge type e with one more derivative in direction d
 --   IsBumped d qs rs == rs are qs with one of them raised so
+--   bumped_at d i qs == the list qs in which the one at place i is raised
+--   first_bumped d n es == the lists in which one of the first n of es is raised, each in order
+--   all_bumped d es == the lists in which one of es is raised, each in order
 use Rattle.std.specs.Prelude.{◌≡◌, ℕ, zero, suc, List, [], ◌∷◌, ◌⊎◌, map, length}
 use Rattle.std.specs.List.{range_with_len}
 use Rattle.conforming_trees.specs.Conforming.{EdgeLabel}

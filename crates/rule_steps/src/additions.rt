@@ -19,7 +19,8 @@ use std::collections::BTreeSet;
 /// Node types in their order, each once.
 fn set_of(alloc: Global, nodes: Vec<NodeType>) -> Result<Vec<NodeType>, RuleRefusal>
     ensures set { IfOk result (λ v. IsSetOf (λ es. IsIn es (map labels nodes.items)) v.items) }
-    ensures large { IfErr result (λ e. e ≡ RuleTooLarge → HasMany (λ es. IsIn es (map labels nodes.items))) }
+    ensures large { IfErr result (λ e. e ≡ RuleTooLarge →
+        HasMany (λ es. IsIn es (map labels nodes.items))) }
 {
     if nodes.len() < 2 {
         return Ok(nodes);
@@ -38,7 +39,8 @@ fn bumped_of(
     requires known { direction < 5 }
     requires small { AreSmallEntries (2 ^ 31) nodes.now }
     ensures set { IfOk result (λ s. IsSetOf (IsBumpedOf direction nodes.now) s.keys) }
-    ensures large { IfErr result (λ e. e ≡ RuleTooLarge → HasMany (IsBumpedOf direction nodes.now)) }
+    ensures large { IfErr result (λ e. e ≡ RuleTooLarge →
+        HasMany (IsBumpedOf direction nodes.now)) }
 {
     let mut found = BTreeSet::new(alloc);
     for node in nodes {
@@ -58,20 +60,23 @@ fn with_bumped(
     requires known { direction < 5 }
     requires small { AreSmallEntries (2 ^ 31) nodes.items }
     ensures set { IfOk result (λ v. IsSetOf (IsWithBumped direction nodes.items) v.items) }
-    ensures large { IfErr result (λ e. e ≡ RuleTooLarge → HasMany (IsWithBumped direction nodes.items)) }
+    ensures large { IfErr result (λ e. e ≡ RuleTooLarge →
+        HasMany (IsWithBumped direction nodes.items)) }
 {
     let mut found = bumped_of(alloc, nodes.as_slice(), direction)?;
     put_few(nodes, &mut found)?;
     Ok(found.into_iter().collect(alloc)?)
 }
 
-/// Node types raised in all ways by at most a multiindex. What is there after some units is there at the end, so what is too large before is so at the end.
+/// Node types raised in all ways by at most a multiindex. What is there after some units is there
+/// at the end, so what is too large before is so at the end.
 fn raised_by(alloc: Global, nodes: Vec<NodeType>, n: Multi) -> Result<Vec<NodeType>, RuleRefusal>
     requires choices { AreChoices nodes.items }
     requires directions { length n.entries ≡ 5 }
     requires decoration { sum n.entries ≤ 4096 }
     ensures set { IfOk result (λ v. IsSetOf (IsRaisedOf n.entries nodes.items) v.items) }
-    ensures large { IfErr result (λ e. e ≡ RuleTooLarge → HasMany (IsRaisedOf n.entries nodes.items)) }
+    ensures large { IfErr result (λ e. e ≡ RuleTooLarge →
+        HasMany (IsRaisedOf n.entries nodes.items)) }
 {
     let mut found = nodes;
     for direction in 0..5 {
@@ -82,8 +87,9 @@ fn raised_by(alloc: Global, nodes: Vec<NodeType>, n: Multi) -> Result<Vec<NodeTy
     Ok(found)
 }
 
-/// All that can be added at a node with this decoration and these edge types, in their order, above an edge of this type. Fails with `RuleTooLarge` only where that
-/// are more than 2,000 lists, and for want of memory.
+/// All that can be added at a node with this decoration and these edge types, in their order, above
+/// an edge of this type. Fails with `RuleTooLarge` only where that are more than 2,000 lists
+/// (`MOST_NODE_TYPES`), and for want of memory.
 pub(crate) fn additions_at(
     alloc: Global,
     eq: &Equation,
@@ -97,8 +103,10 @@ pub(crate) fn additions_at(
     requires directions { length n.entries ≡ 5 }
     requires decoration { sum n.entries ≤ 4096 }
     requires small { IsSmallRule (2 ^ 30) rule.now }
-    ensures set { IfOk result (λ v. IsSetOf (IsAdditionTo eq.now.types rule.now kind.0 n.entries (map label edges.now)) v.items) }
-    ensures large { IfErr result (λ e. e ≡ RuleTooLarge → HasMany (IsAdditionTo eq.now.types rule.now kind.0 n.entries (map label edges.now))) }
+    ensures set { IfOk result (λ v. IsSetOf (IsAdditionTo eq.now.types rule.now kind.0 n.entries
+        (map label edges.now)) v.items) }
+    ensures large { IfErr result (λ e. e ≡ RuleTooLarge →
+        HasMany (IsAdditionTo eq.now.types rule.now kind.0 n.entries (map label edges.now))) }
 {
     let choices = set_of(alloc, options(alloc, &eq.types, rule, kind, edges)?)?;
     raised_by(alloc, choices, n)

@@ -26,7 +26,8 @@ fn row_of<'a>(rule: &'a Rule, kernel: TypeId) -> &'a [NodeType]
 
 /// What stands behind the first edge type of a list, where that is this one.
 fn after<'a>(e: &EdgeType, edges: &'a [EdgeType]) -> Option<&'a [EdgeType]>
-    ensures { option_map (λ rest. map label rest.now) result ≡ after (label e.now) (map label edges.now) }
+    ensures { option_map (λ rest. map label rest.now) result ≡ after (label e.now)
+        (map label edges.now) }
 {
     match edges {
         [first, rest @ ..] => {
@@ -56,13 +57,15 @@ fn has_all(edges: &[EdgeType], others: &[EdgeType]) -> bool
     rest.is_empty()
 }
 
-/// What is left of a list of edge types without others, where these all stand there. Fails only for want of memory.
+/// What is left of a list of edge types without others, where these all stand there. Fails only for
+/// want of memory.
 fn left_over(
     alloc: Global,
     edges: &[EdgeType],
     others: &[EdgeType],
 ) -> Result<Option<NodeType>, AllocError>
-    ensures { IfOk result (λ left. option_map labels left ≡ without (map label edges.now) (map label others.now)) }
+    ensures { IfOk result (λ left. option_map labels left ≡ without (map label edges.now)
+        (map label others.now)) }
 {
     if !has_all(edges, others) {
         return Ok(None);
@@ -80,14 +83,16 @@ fn left_over(
     }))
 }
 
-/// Puts what is left of a node type without edge types behind others, where these edge types all stand there. Fails only for want of memory.
+/// Puts what is left of a node type without edge types behind others, where these edge types all
+/// stand there. Fails only for want of memory.
 fn put_left_over(
     alloc: Global,
     node: &NodeType,
     edges: &[EdgeType],
     into: &mut Vec<NodeType>,
 ) -> Result<(), AllocError>
-    ensures { OnOk result (map labels into.new.items ≡ map labels into.old.items ++ listed_option (without (labels node.now) (map label edges.now))) }
+    ensures { OnOk result (map labels into.new.items ≡ map labels into.old.items
+        ++ listed_option (without (labels node.now) (map label edges.now))) }
 {
     if let Some(left) = left_over(alloc, node.edges.as_slice(), edges)? {
         into.push(left)?;
@@ -95,7 +100,8 @@ fn put_left_over(
     Ok(())
 }
 
-/// What can be added to edge types so that they are one of some node types. Fails only for want of memory.
+/// What can be added to edge types so that they are one of some node types. Fails only for want of
+/// memory.
 pub(crate) fn options_in(
     alloc: Global,
     nodes: &[NodeType],
@@ -110,7 +116,8 @@ pub(crate) fn options_in(
     Ok(found)
 }
 
-/// What can be added to edge types so that the rule of a type allows them together: above a noise nothing. Fails only for want of memory.
+/// What can be added to edge types so that the rule of a type allows them together: above a noise
+/// nothing. Fails only for want of memory.
 pub(crate) fn options(
     alloc: Global,
     types: &Types,
@@ -118,7 +125,8 @@ pub(crate) fn options(
     kind: TypeId,
     edges: &[EdgeType],
 ) -> Result<Vec<NodeType>, AllocError>
-    ensures { IfOk result (λ v. map labels v.items ≡ options types.now rule.now kind.0 (map label edges.now)) }
+    ensures { IfOk result (λ v. map labels v.items ≡ options types.now rule.now kind.0
+        (map label edges.now)) }
 {
     match types.list.get(kind.0 as usize) {
         None => Ok(Vec::new(alloc)),

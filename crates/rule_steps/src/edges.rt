@@ -12,7 +12,8 @@ use std::alloc::{AllocError, Global};
 
 /// The number of edge types that are less than this one, from the first on.
 fn place(edges: &[EdgeType], e: &EdgeType) -> usize
-    ensures { result ≡ prefix_len (λ f. is_gt (edge_label_order (label e.now) f)) (map label edges.now) }
+    ensures { result ≡ prefix_len (λ f. is_gt (edge_label_order (label e.now) f))
+        (map label edges.now) }
 {
     for i in 0..edges.len() {
         if !e.cmp(&edges[i]).is_gt() {
@@ -24,14 +25,16 @@ fn place(edges: &[EdgeType], e: &EdgeType) -> usize
 
 /// Puts an edge type into a list in order.
 fn put_edge(edges: &mut Vec<EdgeType>, e: EdgeType) -> Result<(), AllocError>
-    ensures { OnOk result (map label edges.new.items ≡ put_label (label e) (map label edges.old.items)) }
+    ensures { OnOk result (map label edges.new.items ≡ put_label (label e)
+        (map label edges.old.items)) }
 {
     let at = place(edges.as_slice(), &e);
     edges.insert(at, e)?;
     Ok(())
 }
 
-/// The edge types of two lists together, in order where the second is. Fails only for want of memory.
+/// The edge types of two lists together, in order where the second is. Fails only for want of
+/// memory.
 pub(crate) fn joined(
     alloc: Global,
     front: &[EdgeType],

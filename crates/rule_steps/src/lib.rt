@@ -1,4 +1,5 @@
-//! One step of the completion of a rule.
+//! One step of the completion of a rule: from the listed trees to the next stage. It takes these
+//! trees as they come, and stands apart from their listing.
 #![tactic(auto)]
 
 mod additions;

@@ -46,7 +46,8 @@ pub(crate) fn put_bumped(
 ) -> Result<(), AllocError>
     requires known { direction < 5 }
     requires small { AreSmallEdges (2 ^ 31) node.now }
-    ensures { OnOk result (map labels into.new.items ≡ map labels into.old.items ++ all_bumped direction (labels node.now)) }
+    ensures { OnOk result (map labels into.new.items ≡ map labels into.old.items
+        ++ all_bumped direction (labels node.now)) }
 {
     for i in 0..node.edges.len() {
         into.push(bumped(alloc, node, i, direction)?)?;

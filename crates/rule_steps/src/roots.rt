@@ -30,8 +30,9 @@ pub(crate) fn root_type(alloc: Global, pool: &Pool<'_>, id: TreeId) -> Result<No
     joined(alloc, types.as_slice(), &[])
 }
 
-/// All that can be added at the root of a tree that stands above an edge of this type. Fails with `RuleTooLarge` only where that are more than 2,000 lists, and for
-/// want of memory.
+/// All that can be added at the root of a tree that stands above an edge of this type. Fails with
+/// `RuleTooLarge` only where that are more than 2,000 lists (`MOST_NODE_TYPES`), and for want of
+/// memory.
 pub(crate) fn additions_at_root(
     alloc: Global,
     eq: &Equation,
@@ -44,8 +45,10 @@ pub(crate) fn additions_at_root(
     requires rule { IsRule eq.now rule.now }
     requires small { IsSmallRule (2 ^ 30) rule.now }
     requires known { id.0 < length pool.now.trees }
-    ensures set { IfOk result (λ v. IsSetOf (IsAdditionAt eq.now.types rule.now kind.0 (tree_at pool.now id.0)) v.items) }
-    ensures large { IfErr result (λ e. e ≡ RuleTooLarge → HasMany (IsAdditionAt eq.now.types rule.now kind.0 (tree_at pool.now id.0))) }
+    ensures set { IfOk result (λ v. IsSetOf (IsAdditionAt eq.now.types rule.now kind.0
+        (tree_at pool.now id.0)) v.items) }
+    ensures large { IfErr result (λ e. e ≡ RuleTooLarge →
+        HasMany (IsAdditionAt eq.now.types rule.now kind.0 (tree_at pool.now id.0))) }
 {
     let (n, _) = pool.node(id);
     let root = root_type(alloc, pool, id)?;

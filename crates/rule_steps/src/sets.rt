@@ -30,14 +30,16 @@ fn put_all(nodes: Vec<NodeType>, into: &mut BTreeSet<NodeType>) -> Result<(), Al
     Ok(())
 }
 
-/// Puts node types into a set that may have at most 2,000. Fails with `RuleTooLarge` only where it would have more, and for want of memory.
+/// Puts node types into a set that may have at most 2,000 (`MOST_NODE_TYPES`). Fails with
+/// `RuleTooLarge` only where it would have more, and for want of memory.
 pub(crate) fn put_few(
     nodes: Vec<NodeType>,
     into: &mut BTreeSet<NodeType>,
 ) -> Result<(), RuleRefusal>
     ensures new { OnOk result (into.new.keys ≡ insert_all node_order into.old.keys nodes.items) }
     ensures few { OnOk result (length into.new.keys ≤ 2000) }
-    ensures large { IfErr result (λ e. e ≡ RuleTooLarge → 2000 < length (insert_all node_order into.old.keys nodes.items)) }
+    ensures large { IfErr result (λ e. e ≡ RuleTooLarge →
+        2000 < length (insert_all node_order into.old.keys nodes.items)) }
 {
     put_all(nodes, into)?;
     if into.len() > MOST_NODE_TYPES {

@@ -26,8 +26,9 @@ use std::alloc::{AllocError, Global};
 use std::collections::BTreeSet;
 use tree_pool::{Pool, TreeId};
 
-/// All that a tree makes for a kernel: the additions at all its nodes together. Fails with `RuleTooLarge` only where that are more than 2,000 node types, and for
-/// want of memory.
+/// All that a tree makes for a kernel: the additions at all its nodes together. Fails with
+/// `RuleTooLarge` only where that are more than 2,000 node types (`MOST_NODE_TYPES`), and for want
+/// of memory.
 fn made_of(
     alloc: Global,
     eq: &Equation,
@@ -43,8 +44,10 @@ fn made_of(
     requires known { id.0 < length pool.now.trees }
     requires conforms { ConformsAbove eq.now.types rule.now (tree_at pool.now id.0) }
     requires kernel { kind_of eq.now.types kernel.0 ≡ Some Kernel }
-    ensures set { IfOk result (λ v. IsSetOf (IsMadeOf eq.now.types rule.now kernel.0 (tree_at pool.now id.0)) v.items) }
-    ensures large { IfErr result (λ e. e ≡ RuleTooLarge → HasMany (IsMadeOf eq.now.types rule.now kernel.0 (tree_at pool.now id.0))) }
+    ensures set { IfOk result (λ v. IsSetOf (IsMadeOf eq.now.types rule.now kernel.0
+        (tree_at pool.now id.0)) v.items) }
+    ensures large { IfErr result (λ e. e ≡ RuleTooLarge →
+        HasMany (IsMadeOf eq.now.types rule.now kernel.0 (tree_at pool.now id.0))) }
 {
     let at = additions_at_root(alloc, eq, rule, pool, kernel, id)?;
     if at.is_empty() {
@@ -67,8 +70,9 @@ fn copies(alloc: Global, nodes: &[NodeType]) -> Result<Vec<NodeType>, AllocError
     Ok(copies)
 }
 
-/// The node types of a row in the next stage: those of the row, and what the listed trees make for its kernel. Fails with `RuleTooLarge` only where they are more
-/// than 2,000, and for want of memory.
+/// The node types of a row in the next stage: those of the row, and what the listed trees make for
+/// its kernel. Fails with `RuleTooLarge` only where they are more than 2,000, and for want of
+/// memory.
 fn next_nodes(
     alloc: Global,
     eq: &Equation,
@@ -86,7 +90,8 @@ fn next_nodes(
     requires row { IsIn row.now rule.now.rows }
     ensures set { IfOk result (λ v. IsSetOf (IsInNext eq.now rule.now row.now.kernel.0) v.items) }
     ensures few { IfOk result (λ v. length v.items ≤ 2000) }
-    ensures large { IfErr result (λ e. e ≡ RuleTooLarge → HasMany (IsInNext eq.now rule.now row.now.kernel.0)) }
+    ensures large { IfErr result (λ e. e ≡ RuleTooLarge →
+        HasMany (IsInNext eq.now rule.now row.now.kernel.0)) }
 {
     let mut nodes = BTreeSet::new(alloc);
     put_few(copies(alloc, row.nodes.as_slice())?, &mut nodes)?;
@@ -96,7 +101,8 @@ fn next_nodes(
     Ok(nodes.into_iter().collect(alloc)?)
 }
 
-/// The rows of the next stage. Fails with `RuleTooLarge` only where they together have more than 2,000 node types, and for want of memory.
+/// The rows of the next stage. Fails with `RuleTooLarge` only where they together have more than
+/// 2,000 node types (`MOST_NODE_TYPES`), and for want of memory.
 fn next_rows(
     alloc: Global,
     eq: &Equation,
@@ -130,8 +136,9 @@ fn next_rows(
     Ok(rows)
 }
 
-/// The stage of a completion that comes after a rule with these listed trees (after Bruned, Hairer and Zambotti): the rule, and what its listed trees make. Fails
-/// with `RuleTooLarge` exactly where that has more than 2,000 node types, and for want of memory.
+/// The stage of a completion that comes after a rule with these listed trees (after Bruned, Hairer
+/// and Zambotti): the rule, and what its listed trees make. Fails with `RuleTooLarge` exactly where
+/// that has more than 2,000 node types (`MOST_NODE_TYPES`), and for want of memory.
 pub fn next_stage(
     alloc: Global,
     eq: &Equation,

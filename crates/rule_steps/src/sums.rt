@@ -22,7 +22,8 @@ use tree_pool::{Pool, TreeId};
 
 /// A node type with each of others together. Fails only for want of memory.
 fn with_each(alloc: Global, x: &NodeType, ys: &[NodeType]) -> Result<Vec<NodeType>, AllocError>
-    ensures { IfOk result (λ v. map labels v.items ≡ map (join (labels x.now)) (map labels ys.now)) }
+    ensures { IfOk result (λ v. map labels v.items ≡ map (join (labels x.now))
+        (map labels ys.now)) }
 {
     let mut all = Vec::new(alloc);
     for y in ys {
@@ -31,7 +32,8 @@ fn with_each(alloc: Global, x: &NodeType, ys: &[NodeType]) -> Result<Vec<NodeTyp
     Ok(all)
 }
 
-/// Each of some node types with each of others together. Fails with `RuleTooLarge` only where that are more than 2,000, and for want of memory.
+/// Each of some node types with each of others together. Fails with `RuleTooLarge` only where that
+/// are more than 2,000, and for want of memory.
 pub(crate) fn sums(
     alloc: Global,
     xs: &[NodeType],
@@ -47,7 +49,8 @@ pub(crate) fn sums(
     Ok(all.into_iter().collect(alloc)?)
 }
 
-/// The same where the others are in their order, each once. They are given back as they are where the first are the empty node type alone.
+/// The same where the others are in their order, each once. They are given back as they are where
+/// the first are the empty node type alone.
 pub(crate) fn sums_with(
     alloc: Global,
     xs: &[NodeType],
@@ -63,7 +66,8 @@ pub(crate) fn sums_with(
     }
 }
 
-/// All additions above the root of a tree of the pool, together. Fails with `RuleTooLarge` only where that are more than 2,000, and for want of memory.
+/// All additions above the root of a tree of the pool, together. Fails with `RuleTooLarge` only
+/// where that are more than 2,000, and for want of memory.
 pub(crate) fn additions_above(
     alloc: Global,
     eq: &Equation,
@@ -77,8 +81,12 @@ pub(crate) fn additions_above(
     requires types { pool.now.types ≡ eq.now.types }
     requires known { id.0 < length pool.now.trees }
     requires conforms { ConformsAbove eq.now.types rule.now (tree_at pool.now id.0) }
-    ensures set { IfOk result (λ v. IsSetOf (λ es. IsIn es (additions_above eq.now.types rule.now (tree_at pool.now id.0))) v.items) }
-    ensures large { IfErr result (λ e. e ≡ RuleTooLarge → HasMany (λ es. IsIn es (additions_above eq.now.types rule.now (tree_at pool.now id.0)))) }
+    ensures set { IfOk result
+        (λ v.
+        IsSetOf (λ es. IsIn es (additions_above eq.now.types rule.now (tree_at pool.now id.0)))
+        v.items) }
+    ensures large { IfErr result (λ e. e ≡ RuleTooLarge →
+        HasMany (λ es. IsIn es (additions_above eq.now.types rule.now (tree_at pool.now id.0)))) }
 {
     let (_, edges) = pool.node(id);
     let mut all = empty_alone(alloc)?;

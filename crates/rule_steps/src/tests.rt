@@ -55,7 +55,8 @@ fn count_of_products(alloc: Global, m: usize, n: usize) -> Result<usize, RuleRef
     Ok(sums(alloc, us.as_slice(), xs.as_slice())?.len())
 }
 
-// Whether these are what can be added to edge types where nothing, X, U, X with U and U with U are allowed.
+// Whether these are what can be added to edge types where nothing, X, U, X with U and U with U are
+// allowed.
 fn are_options(
     alloc: Global,
     edges: &[EdgeType],

@@ -116,7 +116,8 @@ module _ {K : Type 0} where
         | false ↦ all_kept P q ts a.1
       ]
 
-  ascending_kept : (cmp : K → K → Ordering) (q : K × ℤ → Bool) (ts : List (K × ℤ)) → IsStrictlySortedBy cmp (keys ts) → IsStrictlySortedBy cmp (keys (filter q ts))
+  ascending_kept : (cmp : K → K → Ordering) (q : K × ℤ → Bool) (ts : List (K × ℤ)) →
+      IsStrictlySortedBy cmp (keys ts) → IsStrictlySortedBy cmp (keys (filter q ts))
   unfolding IsStrictlySortedBy
   ascending_kept cmp q [] s = tt
   ascending_kept cmp q (t ∷ ts) s =

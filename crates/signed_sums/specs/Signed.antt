@@ -1,5 +1,6 @@
 -- Formal sums with whole numbers as coefficients, as lists of terms; a term is a key with a
 -- coefficient.
+-- What contracts of public calls say:
 --   keys ts == the keys
 --   coefficient_at same k ts == the sum of the coefficients of the key k
 --   HaveSameCoefficients same ts us == each key has one sum in both lists
@@ -9,9 +10,10 @@
 --   without_zeros ts == the terms with a coefficient that is not 0
 --   IsSumOf cmp us ts == ts is the sum of the terms us: each key once, in ascending order, with the
 --       sum of its coefficients, where that is not 0; and it is no larger
---   is_below z == z is below 0
 --   product_of zs, size_of_product zs == the product of whole numbers, that of their absolute
 --       values
+-- Working notions of the code and of proofs:
+--   is_below z == z is below 0
 use Rattle.std.specs.Prelude.{◌≡◌, ◌≢◌, ℕ, ◌≤◌, ◌*◌, ◌==◌, ℤ, pos, negsuc, ◌+ℤ◌, ◌*ℤ◌, unsigned_abs, Bool, true, false, not, cond, List, [], ◌∷◌, map, filter}
 use Rattle.std.specs.List.{AllByRecursion}
 use Rattle.std.specs.List.Sorted.{IsStrictlySortedBy}

@@ -1,4 +1,5 @@
-//! Formal sums with whole numbers as coefficients.
+//! Formal sums with whole numbers as coefficients, beside those of `exact_sums`, whose coefficients
+//! are at least 0.
 #![tactic(auto)]
 
 mod laws;

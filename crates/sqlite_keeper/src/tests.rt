@@ -1,6 +1,8 @@
+mod calls;
+mod migration;
+
 use super::*;
-use crate::version::migrate;
-use result_keeper::{ContextPair, Keeper, KeeperError, ProjectName, Put, QuietKeeper, StoredRow};
+use result_keeper::{Keeper, KeeperError, ProjectName, Put, QuietKeeper, StoredRow};
 use sqlite::{Connection, Error, MemStore, params};
 use std::alloc::{AllocError, Global};
 use std::process::Abort;
@@ -143,38 +145,6 @@ fn a_failure_among_many_rows_leaves_none(rt: HostRuntime) -> Result<(), Fail> {
     rows.truncate(50);
     assert_eq!(rt; keeper.put_results(alloc, b"kpz", &rows), Ok(()));
     assert_eq!(rt; keeper.results(alloc, b"kpz")?.len(), 50);
-    Ok(())
-}
-
-fn pair(alloc: Global, old: &str, new: &str) -> Result<ContextPair, AllocError> {
-    Ok(ContextPair {
-        old: old.as_bytes().to_vec(alloc)?,
-        new: new.as_bytes().to_vec(alloc)?,
-    })
-}
-
-const OLD_RESULTS: &str =
-    "INSERT INTO result(context, tree, value) VALUES (x'63', x'74', x'76'), (x'63', x'75', x'77'), (x'64', x'74', x'78')";
-
-#[test]
-fn migration_moves_the_rows_of_each_context(rt: HostRuntime) -> Result<(), Fail> {
-    let alloc = rt.alloc();
-    let old = keeper_over(alloc, &[RESULT, OLD_RESULTS])?;
-    assert_eq!(rt; old.version(), 1);
-    let mut pairs = Vec::new(alloc);
-    pairs.push(pair(alloc, "c", "new c")?)?;
-    pairs.push(pair(alloc, "d", "new d")?)?;
-    let mut conn = old.into_connection();
-    migrate(&mut conn, &pairs).expect(&rt, "a migration");
-    let mut keeper = SqliteKeeper::new(alloc, conn)?;
-    assert_eq!(rt; keeper.version(), 2);
-    for (context, count) in [("c", 0), ("d", 0), ("new c", 2), ("new d", 1)] {
-        assert_eq!(rt;
-            keeper.results(alloc, context.as_bytes())?.len(),
-            count,
-            "{context}"
-        );
-    }
     Ok(())
 }
 

@@ -15,7 +15,9 @@ less_is Equal h = absurd cc
 less_is Greater h = absurd cc
 
 -- the test of the neighbours that are left
-pub next_pair : {A X : Type 0} (of : A → X) (p : X → X → Bool) (list : List A) (i : ℕ) (x y : A) (b : Bool) → 0 < i → i < length list → x ≡ get_or list (i - 1) x → y ≡ get_or list i y → p (of x) (of y) ≡ b →
+pub next_pair : {A X : Type 0} (of : A → X) (p : X → X → Bool) (list : List A) (i : ℕ) (x y : A) (b : Bool) →
+    0 < i → i < length list → x ≡ get_or list (i - 1) x → y ≡ get_or list i y →
+    p (of x) (of y) ≡ b →
     neighbours p (map of (drop (i - 1) list)) ≡ (b && neighbours p (map of (drop i list)))
 next_pair {A} of p list i x y b some l ex ey h =
     let back : i - 1 + 1 ≡ i = omega arith in
@@ -26,11 +28,15 @@ next_pair {A} of p list i x y b some l ex ey h =
     ∙ ap (λ (xs : List A). b && neighbours p (map of xs)) (sym second)
 
 -- where a pair fails, all fail; where it passes, the rest decides
-pub pair_fails : {A X : Type 0} (of : A → X) (p : X → X → Bool) (list : List A) (i : ℕ) (x y : A) (whole : Bool) → 0 < i → i < length list → x ≡ get_or list (i - 1) x → y ≡ get_or list i y → p (of x) (of y) ≡ false →
+pub pair_fails : {A X : Type 0} (of : A → X) (p : X → X → Bool) (list : List A) (i : ℕ) (x y : A) (whole : Bool) →
+    0 < i → i < length list → x ≡ get_or list (i - 1) x → y ≡ get_or list i y →
+    p (of x) (of y) ≡ false →
     neighbours p (map of (drop (i - 1) list)) ≡ whole → false ≡ whole
 pair_fails of p list i x y whole some l ex ey h w = sym (next_pair of p list i x y false some l ex ey h) ∙ w
 
-pub pair_passes : {A X : Type 0} (of : A → X) (p : X → X → Bool) (list : List A) (i : ℕ) (x y : A) (whole : Bool) → 0 < i → i < length list → x ≡ get_or list (i - 1) x → y ≡ get_or list i y → p (of x) (of y) ≡ true →
+pub pair_passes : {A X : Type 0} (of : A → X) (p : X → X → Bool) (list : List A) (i : ℕ) (x y : A) (whole : Bool) →
+    0 < i → i < length list → x ≡ get_or list (i - 1) x → y ≡ get_or list i y →
+    p (of x) (of y) ≡ true →
     neighbours p (map of (drop (i - 1) list)) ≡ whole → neighbours p (map of (drop (i + 1 - 1) list)) ≡ whole
 pair_passes of p list i x y whole some l ex ey h w =
     let same : i + 1 - 1 ≡ i = omega arith in

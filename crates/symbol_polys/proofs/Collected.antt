@@ -17,14 +17,17 @@ all-normal P (t ∷ ts) h = all-with_term P t (normal ts) h.0 (all-normal P ts h
 is_normal : (mass : ℤ) (ts us : List PlainTerm) → IsPolynomial mass ts → HaveSameCoefficients ts us → ts ≡ normal us
 is_normal mass ts us p h = determined ts (normal us) p.ascending (strict-normal us) p.not_zero (not_zero-normal us) (λ m. h m ∙ sym (coefficient_of-normal m us))
 
-pub collected-all : (P : List PlainSymbol → Type 0) (mass : ℤ) (ts us : List PlainTerm) → IsPolynomial mass ts → HaveSameCoefficients ts us → AllByRecursion P (monomials us) → AllByRecursion P (monomials ts)
+pub collected-all : (P : List PlainSymbol → Type 0) (mass : ℤ) (ts us : List PlainTerm) →
+    IsPolynomial mass ts → HaveSameCoefficients ts us → AllByRecursion P (monomials us) →
+    AllByRecursion P (monomials ts)
 collected-all P mass ts us p h a = subst (λ (vs : List PlainTerm). AllByRecursion P (monomials vs)) (sym (is_normal mass ts us p h)) (all-normal P us a)
 
 -- the sum of the absolute coefficients, each times a number for its monomial
 abbrev pub weighed : (List PlainSymbol → ℕ) → List PlainTerm → ℕ
 weighed f ts = total (λ t. unsigned_abs t.coefficient * f t.symbols) ts
 
-weighed-kept : (f : List PlainSymbol → ℕ) (t : PlainTerm) (ts : List PlainTerm) → weighed f (kept t ts) ≤ unsigned_abs t.coefficient * f t.symbols + weighed f ts
+weighed-kept : (f : List PlainSymbol → ℕ) (t : PlainTerm) (ts : List PlainTerm) →
+    weighed f (kept t ts) ≤ unsigned_abs t.coefficient * f t.symbols + weighed f ts
 weighed-kept f t ts =
     elim (is_zero t.coefficient) as (λ (b : Bool). weighed f (cond b ts (t ∷ ts)) ≤ unsigned_abs t.coefficient * f t.symbols + weighed f ts) [ true ↦ omega arith | false ↦ omega arith ]
 
@@ -34,7 +37,8 @@ size_of-plus a b n = omega (arith, mul-le (unsigned_abs (a +ℤ b)) n (unsigned_
     split : (x y n : ℕ) → (x + y) * n ≡ x * n + y * n
     split x y n = grind arith
 
-weighed-with : (f : List PlainSymbol → ℕ) (t : PlainTerm) (us : List PlainTerm) → weighed f (with_term t us) ≤ unsigned_abs t.coefficient * f t.symbols + weighed f us
+weighed-with : (f : List PlainSymbol → ℕ) (t : PlainTerm) (us : List PlainTerm) →
+    weighed f (with_term t us) ≤ unsigned_abs t.coefficient * f t.symbols + weighed f us
 weighed-with f t [] = weighed-kept f t []
 weighed-with f t (u ∷ us) =
     let rest = weighed-with f t us in
@@ -49,5 +53,6 @@ weighed-normal : (f : List PlainSymbol → ℕ) (ts : List PlainTerm) → weighe
 weighed-normal f [] = omega arith
 weighed-normal f (t ∷ ts) = let rest = weighed-normal f ts in omega (arith, weighed-with f t (normal ts), rest)
 
-pub collected-weighed : (f : List PlainSymbol → ℕ) (mass : ℤ) (ts us : List PlainTerm) → IsPolynomial mass ts → HaveSameCoefficients ts us → weighed f ts ≤ weighed f us
+pub collected-weighed : (f : List PlainSymbol → ℕ) (mass : ℤ) (ts us : List PlainTerm) →
+    IsPolynomial mass ts → HaveSameCoefficients ts us → weighed f ts ≤ weighed f us
 collected-weighed f mass ts us p h = omega (arith, ap (weighed f) (is_normal mass ts us p h), weighed-normal f us)

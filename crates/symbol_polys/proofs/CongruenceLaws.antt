@@ -18,8 +18,10 @@ none_times a z h = ap (λ (x : ℤ). x *ℤ z) h ∙ zero-*ℤ z
 times_none : (z a : ℤ) → a ≡ pos 0 → z *ℤ a ≡ pos 0
 times_none z a h = *ℤ_comm z a ∙ none_times a z h
 
--- the coefficient in a term that is made of another, with a monomial that depends on its monomial alone
-made_sum : (m : List PlainSymbol) (g : List PlainSymbol → List PlainSymbol) (h : List PlainSymbol → ℤ → ℤ) (n k : List PlainSymbol) (a b : ℤ) → h n (a +ℤ b) ≡ h n a +ℤ h n b → n ≡ k →
+-- the coefficient in a term that is made of another, with a monomial that depends on its monomial
+-- alone
+made_sum : (m : List PlainSymbol) (g : List PlainSymbol → List PlainSymbol) (h : List PlainSymbol → ℤ → ℤ) (n k : List PlainSymbol) (a b : ℤ) →
+    h n (a +ℤ b) ≡ h n a +ℤ h n b → n ≡ k →
     cond (is_eq (monomial_order (g n) m)) (h n (a +ℤ b)) (pos 0) ≡ cond (is_eq (monomial_order (g n) m)) (h n a) (pos 0) +ℤ cond (is_eq (monomial_order (g k) m)) (h k b) (pos 0)
 made_sum m g h n k a b s e =
     ap (λ (c : ℤ). cond (is_eq (monomial_order (g n) m)) c (pos 0)) s
@@ -32,7 +34,8 @@ derivative-linear m s = record {
   none = λ t h. none_at (is_eq (monomial_order (without s t.symbols) m)) (pos (power_of s t.symbols) *ℤ t.coefficient) (times_none (pos (power_of s t.symbols)) t.coefficient h);
 }
 
-derivatives_total : (m : List PlainSymbol) (s : PlainSymbol) (ts : List PlainTerm) → coefficient_of m (derivatives s ts) ≡ total_of (λ t. at m (derivative s t)) ts
+derivatives_total : (m : List PlainSymbol) (s : PlainSymbol) (ts : List PlainTerm) →
+    coefficient_of m (derivatives s ts) ≡ total_of (λ t. at m (derivative s t)) ts
 derivatives_total m s [] = refl
 derivatives_total m s (t ∷ ts) = ap (λ (c : ℤ). at m (derivative s t) +ℤ c) (derivatives_total m s ts)
 
@@ -50,14 +53,18 @@ with_total : (m : List PlainSymbol) (t : PlainTerm) (us : List PlainTerm) → co
 with_total m t [] = refl
 with_total m t (u ∷ us) = ap (λ (c : ℤ). at m (term_product t u) +ℤ c) (with_total m t us)
 
-with_same : (m : List PlainSymbol) (t : PlainTerm) (us vs : List PlainTerm) → HaveSameCoefficients us vs → coefficient_of m (products_with t us) ≡ coefficient_of m (products_with t vs)
+with_same : (m : List PlainSymbol) (t : PlainTerm) (us vs : List PlainTerm) →
+    HaveSameCoefficients us vs →
+    coefficient_of m (products_with t us) ≡ coefficient_of m (products_with t vs)
 with_same m t us vs h = with_total m t us ∙ same_totals (λ u. at m (term_product t u)) (second-linear m t) us vs h ∙ sym (with_total m t vs)
 
-pub products_total : (m : List PlainSymbol) (ts us : List PlainTerm) → coefficient_of m (products ts us) ≡ total_of (λ t. coefficient_of m (products_with t us)) ts
+pub products_total : (m : List PlainSymbol) (ts us : List PlainTerm) →
+    coefficient_of m (products ts us) ≡ total_of (λ t. coefficient_of m (products_with t us)) ts
 products_total m [] us = refl
 products_total m (t ∷ ts) us = coefficient_of-append m (products_with t us) (products ts us) ∙ ap (λ (c : ℤ). coefficient_of m (products_with t us) +ℤ c) (products_total m ts us)
 
-second_same : (m : List PlainSymbol) (ts us vs : List PlainTerm) → HaveSameCoefficients us vs → coefficient_of m (products ts us) ≡ coefficient_of m (products ts vs)
+second_same : (m : List PlainSymbol) (ts us vs : List PlainTerm) → HaveSameCoefficients us vs →
+    coefficient_of m (products ts us) ≡ coefficient_of m (products ts vs)
 second_same m [] us vs h = refl
 second_same m (t ∷ ts) us vs h =
     coefficient_of-append m (products_with t us) (products ts us)
@@ -69,7 +76,8 @@ second_same m (t ∷ ts) us vs h =
 exchanged : (a b c d x y : ℤ) → x ≡ a +ℤ b → y ≡ c +ℤ d → x +ℤ y ≡ a +ℤ c +ℤ (b +ℤ d)
 exchanged a b c d x y h k = omega (arith, ints, h, k)
 
-with_sum : (m : List PlainSymbol) (t u : PlainTerm) (vs : List PlainTerm) → t.symbols ≡ u.symbols → coefficient_of m (products_with (plus t u) vs) ≡ coefficient_of m (products_with t vs) +ℤ coefficient_of m (products_with u vs)
+with_sum : (m : List PlainSymbol) (t u : PlainTerm) (vs : List PlainTerm) → t.symbols ≡ u.symbols →
+    coefficient_of m (products_with (plus t u) vs) ≡ coefficient_of m (products_with t vs) +ℤ coefficient_of m (products_with u vs)
 with_sum m t u [] e = refl
 with_sum m t u (v ∷ vs) e =
     exchanged (at m (term_product t v)) (at m (term_product u v)) (coefficient_of m (products_with t vs)) (coefficient_of m (products_with u vs)) (at m (term_product (plus t u) v)) (coefficient_of m (products_with (plus t u) vs))
@@ -88,7 +96,8 @@ with_none m t (v ∷ vs) h =
 first-linear : (m : List PlainSymbol) (us : List PlainTerm) → IsLinear (λ t. coefficient_of m (products_with t us))
 first-linear m us = record { sum = λ t u e. with_sum m t u us e; none = λ t h. with_none m t us h }
 
-pub products_same : (ts us vs ws : List PlainTerm) → HaveSameCoefficients ts us → HaveSameCoefficients vs ws → HaveSameCoefficients (products ts vs) (products us ws)
+pub products_same : (ts us vs ws : List PlainTerm) → HaveSameCoefficients ts us →
+    HaveSameCoefficients vs ws → HaveSameCoefficients (products ts vs) (products us ws)
 products_same ts us vs ws h k = λ m.
     second_same m ts vs ws k
     ∙ products_total m ts ws

@@ -89,7 +89,8 @@ apart_first s x y e h k =
     absurd cc
 
 -- x < y = s, and the second monomial has a symbol behind y
-before_rest : (x y : PlainSymbol) (rest ys : List PlainSymbol) → IsSorted symbol_order (y ∷ ys) → symbol_order x y ≡ Less → 0 < length ys → slice_cmp symbol_order (x ∷ rest) ys ≡ Less
+before_rest : (x y : PlainSymbol) (rest ys : List PlainSymbol) → IsSorted symbol_order (y ∷ ys) →
+    symbol_order x y ≡ Less → 0 < length ys → slice_cmp symbol_order (x ∷ rest) ys ≡ Less
 before_rest x y rest [] h l k = absurd (omega (arith, k))
 before_rest x y rest (z ∷ zs) h l k =
     less_first (symbol_order x z) (slice_cmp symbol_order rest zs) (less-through symbol_order symbol_order_total x y z (symbol_order z y) refl (sorted-next symbol_order symbol_order_total y z zs h) l)
@@ -107,7 +108,9 @@ pub later : (b : Bool) (n : ℕ) → b ≡ false → 0 < cond b 1 0 + n → 0 < 
 later true n e h = absurd cc
 later false n e h = omega (arith, h)
 
-slice_keeps : (s : PlainSymbol) (m n : List PlainSymbol) → length m ≡ length n → IsSorted symbol_order m → IsSorted symbol_order n → 0 < power_of s m → 0 < power_of s n → slice_cmp symbol_order m n ≡ Less →
+slice_keeps : (s : PlainSymbol) (m n : List PlainSymbol) → length m ≡ length n →
+    IsSorted symbol_order m → IsSorted symbol_order n → 0 < power_of s m → 0 < power_of s n →
+    slice_cmp symbol_order m n ≡ Less →
     slice_cmp symbol_order (without s m) (without s n) ≡ Less
 slice_keeps s [] n e hm hn pm pn l = absurd (omega (arith, pm))
 slice_keeps s (x ∷ xs) [] e hm hn pm pn l = absurd (omega (arith, pn))
@@ -145,7 +148,9 @@ same_lengths a b x y h k = grind (arith, nat_tests)
 lengths_equal : (a b : ℕ) → nat_cmp a b ≡ Equal → a ≡ b
 lengths_equal a b h = exact_unsigned a b h
 
-order_kept : (s : PlainSymbol) (m n : List PlainSymbol) → IsSorted symbol_order m → IsSorted symbol_order n → 0 < power_of s m → 0 < power_of s n → monomial_order m n ≡ Less → monomial_order (without s m) (without s n) ≡ Less
+order_kept : (s : PlainSymbol) (m n : List PlainSymbol) → IsSorted symbol_order m →
+    IsSorted symbol_order n → 0 < power_of s m → 0 < power_of s n → monomial_order m n ≡ Less →
+    monomial_order (without s m) (without s n) ≡ Less
 order_kept s m n hm hn pm pn l =
     let lengths : nat_cmp (length (without s m)) (length (without s n)) ≡ nat_cmp (length m) (length n) = same_lengths _ _ _ _ (length-without s m pm) (length-without s n pn) in
     elim (then_less (nat_cmp (length m) (length n)) (slice_cmp symbol_order m n) l) [
@@ -178,7 +183,8 @@ nothing_more : (b : Bool) (z r : ℤ) → z ≡ pos 0 → r ≡ cond b z (pos 0)
 nothing_more true z r h = omega (arith, ints)
 nothing_more false z r h = omega (arith, ints)
 
-pub coefficient_of-kept_derivatives : (m : List PlainSymbol) (s : PlainSymbol) (ts : List PlainTerm) → coefficient_of m (kept_derivatives s ts) ≡ coefficient_of m (derivatives s ts)
+pub coefficient_of-kept_derivatives : (m : List PlainSymbol) (s : PlainSymbol) (ts : List PlainTerm) →
+    coefficient_of m (kept_derivatives s ts) ≡ coefficient_of m (derivatives s ts)
 coefficient_of-kept_derivatives m s [] = refl
 coefficient_of-kept_derivatives m s (t ∷ ts) =
     let n = power_of s t.symbols in
@@ -202,7 +208,9 @@ size_of-kept_derivatives s (t ∷ ts) =
       | false ↦ λ e. ap (λ (k : ℕ). unsigned_abs (pos n *ℤ t.coefficient) + k) rest
     ]) refl
 
-pub each-kept_derivatives : (s : PlainSymbol) (ts : List PlainTerm) → AllByRecursion IsMonomial (monomials ts) → AllByRecursion IsMonomial (monomials (kept_derivatives s ts))
+pub each-kept_derivatives : (s : PlainSymbol) (ts : List PlainTerm) →
+    AllByRecursion IsMonomial (monomials ts) →
+    AllByRecursion IsMonomial (monomials (kept_derivatives s ts))
 each-kept_derivatives s [] h = tt
 each-kept_derivatives s (t ∷ ts) h =
     elim (is_none (power_of s t.symbols)) as (λ (b : Bool). AllByRecursion IsMonomial (monomials (cond b (kept_derivatives s ts) (derivative s t ∷ kept_derivatives s ts)))) [
@@ -213,7 +221,9 @@ each-kept_derivatives s (t ∷ ts) h =
 not_zero_times : (n : ℕ) (c : ℤ) → 0 < n → 0 < unsigned_abs c → 0 < unsigned_abs (pos n *ℤ c)
 not_zero_times n c h k = omega (arith, unsigned_abs-mul (pos n) c, above_zero n (unsigned_abs c) h k)
 
-pub not_zero-kept_derivatives : (s : PlainSymbol) (ts : List PlainTerm) → AllByRecursion (λ t. 0 < unsigned_abs t.coefficient) ts → AllByRecursion (λ t. 0 < unsigned_abs t.coefficient) (kept_derivatives s ts)
+pub not_zero-kept_derivatives : (s : PlainSymbol) (ts : List PlainTerm) →
+    AllByRecursion (λ t. 0 < unsigned_abs t.coefficient) ts →
+    AllByRecursion (λ t. 0 < unsigned_abs t.coefficient) (kept_derivatives s ts)
 not_zero-kept_derivatives s [] h = tt
 not_zero-kept_derivatives s (t ∷ ts) h =
     let n = power_of s t.symbols in
@@ -222,7 +232,9 @@ not_zero-kept_derivatives s (t ∷ ts) h =
       | false ↦ λ e. (not_zero_times n t.coefficient (some_is n e) h.0, not_zero-kept_derivatives s ts h.1)
     ]) refl
 
-below_kept : (s : PlainSymbol) (m : List PlainSymbol) (ts : List PlainTerm) → IsMonomial m → 0 < power_of s m → AllByRecursion IsMonomial (monomials ts) → AllByRecursion (λ n. monomial_order m n ≡ Less) (monomials ts) →
+below_kept : (s : PlainSymbol) (m : List PlainSymbol) (ts : List PlainTerm) → IsMonomial m →
+    0 < power_of s m → AllByRecursion IsMonomial (monomials ts) →
+    AllByRecursion (λ n. monomial_order m n ≡ Less) (monomials ts) →
     AllByRecursion (λ n. monomial_order (without s m) n ≡ Less) (monomials (kept_derivatives s ts))
 below_kept s m [] h p a l = tt
 below_kept s m (t ∷ ts) h p a l =
@@ -233,7 +245,9 @@ below_kept s m (t ∷ ts) h p a l =
       | false ↦ λ e. (order_kept s m t.symbols h.ascending a.0.ascending p (some_is n e) l.0, rest)
     ]) refl
 
-pub strict-kept_derivatives : (s : PlainSymbol) (ts : List PlainTerm) → AllByRecursion IsMonomial (monomials ts) → IsStrictlySortedBy monomial_order (monomials ts) → IsStrictlySortedBy monomial_order (monomials (kept_derivatives s ts))
+pub strict-kept_derivatives : (s : PlainSymbol) (ts : List PlainTerm) →
+    AllByRecursion IsMonomial (monomials ts) → IsStrictlySortedBy monomial_order (monomials ts) →
+    IsStrictlySortedBy monomial_order (monomials (kept_derivatives s ts))
 unfolding IsStrictlySortedBy
 strict-kept_derivatives s [] a h = tt
 strict-kept_derivatives s (t ∷ ts) a h =
@@ -247,7 +261,8 @@ strict-kept_derivatives s (t ∷ ts) a h =
 own_size : (n : ℕ) → pos n ≤ℤ pos n
 own_size n = omega (arith, ints)
 
-pub is_polynomial-derivative : (s : PlainSymbol) (mass : ℤ) (ts us : List PlainTerm) → us ≡ kept_derivatives s ts → IsPolynomial mass ts → IsPolynomial (pos (size_of us)) us
+pub is_polynomial-derivative : (s : PlainSymbol) (mass : ℤ) (ts us : List PlainTerm) →
+    us ≡ kept_derivatives s ts → IsPolynomial mass ts → IsPolynomial (pos (size_of us)) us
 is_polynomial-derivative s mass ts us e p = subst (λ (vs : List PlainTerm). IsPolynomial (pos (size_of vs)) vs) (sym e) record {
   each = each-kept_derivatives s ts p.each;
   ascending = strict-kept_derivatives s ts p.each p.ascending;
@@ -256,10 +271,13 @@ is_polynomial-derivative s mass ts us e p = subst (λ (vs : List PlainTerm). IsP
 }
 
 -- the steps of the loops
-sum_step : (mass more one rest whole n : ℕ) → more ≡ saturating_plus mass (saturated one) → whole ≡ one + rest → saturated (mass + whole) ≡ n → saturated (more + rest) ≡ n
+sum_step : (mass more one rest whole n : ℕ) → more ≡ saturating_plus mass (saturated one) →
+    whole ≡ one + rest → saturated (mass + whole) ≡ n → saturated (more + rest) ≡ n
 sum_step mass more one rest whole n h k l = omega (arith, h, k, l)
 
-pub mass_step : (s : PlainSymbol) (ts : List Term) (i : ℕ) (t : Term) (mass more n : ℕ) → i < length ts → t ≡ get_or ts i t → more ≡ saturating_plus mass (saturated (power_of s (map symbol_of t.symbols) * unsigned_abs t.coefficient)) →
+pub mass_step : (s : PlainSymbol) (ts : List Term) (i : ℕ) (t : Term) (mass more n : ℕ) →
+    i < length ts → t ≡ get_or ts i t →
+    more ≡ saturating_plus mass (saturated (power_of s (map symbol_of t.symbols) * unsigned_abs t.coefficient)) →
     saturated (mass + size_of (derivatives s (terms_of (drop i ts)))) ≡ n → saturated (more + size_of (derivatives s (terms_of (drop (i + 1) ts)))) ≡ n
 mass_step s ts i t mass more n h e m k =
     let cut : drop i ts ≡ t ∷ drop (i + 1) ts = grind (arith, common_steps) in
@@ -269,12 +287,16 @@ mass_step s ts i t mass more n h e m k =
     sum_step mass more (p * unsigned_abs t.coefficient) rest (size_of (derivatives s (terms_of (drop i ts)))) n m (omega (arith, whole, unsigned_abs-mul (pos p) t.coefficient)) k
 
 -- a coefficient of the derivative is in range
-pub derivative_fits : (s : PlainSymbol) (ts : List Term) (i : ℕ) (t : Term) → i < length ts → t ≡ get_or ts i t → size_of (derivatives s (terms_of ts)) < overflow → power_of s (map symbol_of t.symbols) * unsigned_abs t.coefficient < overflow
+pub derivative_fits : (s : PlainSymbol) (ts : List Term) (i : ℕ) (t : Term) → i < length ts →
+    t ≡ get_or ts i t → size_of (derivatives s (terms_of ts)) < overflow →
+    power_of s (map symbol_of t.symbols) * unsigned_abs t.coefficient < overflow
 derivative_fits s [] i t h e k = absurd (omega (arith, h))
 derivative_fits s (u ∷ ts) zero t h e k =
     let p : power_of s (map symbol_of t.symbols) * unsigned_abs t.coefficient ≡ power_of s (map symbol_of u.symbols) * unsigned_abs u.coefficient = ap (λ (x : Term). power_of s (map symbol_of x.symbols) * unsigned_abs x.coefficient) e in
     omega (arith, k, p, unsigned_abs-mul (pos (power_of s (map symbol_of u.symbols))) u.coefficient)
 derivative_fits s (u ∷ ts) (suc i) t h e k = derivative_fits s ts i t (omega (arith, h)) e (omega (arith, k))
 
-pub derived_all : (s : PlainSymbol) (ts : List Term) (i : ℕ) (us : List PlainTerm) → length ts ≤ i → us ++ kept_derivatives s (terms_of (drop i ts)) ≡ kept_derivatives s (terms_of ts) → us ≡ kept_derivatives s (terms_of ts)
+pub derived_all : (s : PlainSymbol) (ts : List Term) (i : ℕ) (us : List PlainTerm) → length ts ≤ i →
+    us ++ kept_derivatives s (terms_of (drop i ts)) ≡ kept_derivatives s (terms_of ts) →
+    us ≡ kept_derivatives s (terms_of ts)
 derived_all s ts i us h k = sym (append-nil us) ∙ ap (λ (xs : List Term). us ++ kept_derivatives s (terms_of xs)) (sym (drop_all i ts h)) ∙ k

@@ -34,13 +34,15 @@ count-without z s (t ∷ m) h =
 power-product : (s : PlainSymbol) (m n : List PlainSymbol) → power_of s (monomial_product m n) ≡ power_of s m + power_of s n
 power-product s m n = count-product s m n
 
-without-first : (s : PlainSymbol) (m n : List PlainSymbol) → IsMonomial m → IsMonomial n → 0 < power_of s m → monomial_product (without s m) n ≡ without s (monomial_product m n)
+without-first : (s : PlainSymbol) (m n : List PlainSymbol) → IsMonomial m → IsMonomial n →
+    0 < power_of s m → monomial_product (without s m) n ≡ without s (monomial_product m n)
 without-first s m n h k p =
     same_monomial (monomial_product (without s m) n) (without s (monomial_product m n))
     (is_monomial-product (without s m) n (is_monomial-without s m h) k) (is_monomial-without s (monomial_product m n) (is_monomial-product m n h k))
     (λ z. omega (arith, count-product z (without s m) n, count-without z s m p, count-without z s (monomial_product m n) (omega (arith, power-product s m n, p)), count-product z m n))
 
-without-second : (s : PlainSymbol) (m n : List PlainSymbol) → IsMonomial m → IsMonomial n → 0 < power_of s n → monomial_product m (without s n) ≡ without s (monomial_product m n)
+without-second : (s : PlainSymbol) (m n : List PlainSymbol) → IsMonomial m → IsMonomial n →
+    0 < power_of s n → monomial_product m (without s n) ≡ without s (monomial_product m n)
 without-second s m n h k p =
     same_monomial (monomial_product m (without s n)) (without s (monomial_product m n))
     (is_monomial-product m (without s n) h (is_monomial-without s n k)) (is_monomial-without s (monomial_product m n) (is_monomial-product m n h k))
@@ -92,14 +94,16 @@ derivatives-append s (t ∷ ts) us = ap (λ (xs : List PlainTerm). derivative s 
 arranged : (x y a b c d : ℤ) → x ≡ a +ℤ b → y ≡ c +ℤ d → x +ℤ y ≡ a +ℤ c +ℤ (b +ℤ d)
 arranged x y a b c d h k = omega (arith, ints, h, k)
 
-row_derivative : (k : List PlainSymbol) (s : PlainSymbol) (t : PlainTerm) (us : List PlainTerm) → IsMonomial t.symbols → AllByRecursion IsMonomial (monomials us) →
+row_derivative : (k : List PlainSymbol) (s : PlainSymbol) (t : PlainTerm) (us : List PlainTerm) →
+    IsMonomial t.symbols → AllByRecursion IsMonomial (monomials us) →
     coefficient_of k (derivatives s (products_with t us)) ≡ coefficient_of k (products_with (derivative s t) us) +ℤ coefficient_of k (products_with t (derivatives s us))
 row_derivative k s t [] ht hu = refl
 row_derivative k s t (u ∷ us) ht hu =
     arranged (at k (derivative s (term_product t u))) (coefficient_of k (derivatives s (products_with t us))) (at k (term_product (derivative s t) u)) (at k (term_product t (derivative s u)))
     (coefficient_of k (products_with (derivative s t) us)) (coefficient_of k (products_with t (derivatives s us))) (term_derivative k s t u ht hu.0) (row_derivative k s t us ht hu.1)
 
-coefficient_of-derivative : (k : List PlainSymbol) (s : PlainSymbol) (ts us : List PlainTerm) → AllByRecursion IsMonomial (monomials ts) → AllByRecursion IsMonomial (monomials us) →
+coefficient_of-derivative : (k : List PlainSymbol) (s : PlainSymbol) (ts us : List PlainTerm) →
+    AllByRecursion IsMonomial (monomials ts) → AllByRecursion IsMonomial (monomials us) →
     coefficient_of k (derivatives s (products ts us)) ≡ coefficient_of k (products (derivatives s ts) us) +ℤ coefficient_of k (products ts (derivatives s us))
 coefficient_of-derivative k s [] us ht hu = refl
 coefficient_of-derivative k s (t ∷ ts) us ht hu =

@@ -32,11 +32,14 @@ entry_back e es fits =
     let least : min e (2 ^ 32 - 1) ≡ e = omega arith in
     rw (number_back e rest (omega arith) (stops es), least) refl
 
-one_more : (k e : ℕ) (es : List ℕ) → e < 2 ^ 32 → entries_at (suc k) (listed_text (e ∷ es) ++ 41 ∷ []) ≡ e ∷ entries_at k (behind_comma (further_text es ++ 41 ∷ []))
+one_more : (k e : ℕ) (es : List ℕ) → e < 2 ^ 32 →
+    entries_at (suc k) (listed_text (e ∷ es) ++ 41 ∷ []) ≡ e ∷ entries_at k (behind_comma (further_text es ++ 41 ∷ []))
 one_more k e es fits =
     ap (entries_at (suc k)) (append_assoc (decimal e) (further_text es) (41 ∷ [])) ∙ rw (entry_back e es fits) refl
 
-entries_back : (k : ℕ) (es : List ℕ) → 0 < length es → length es ≤ k → AllByRecursion (λ x. x < 2 ^ 32) es → entries_at k (listed_text es ++ 41 ∷ []) ≡ es ++ padding (k - length es)
+entries_back : (k : ℕ) (es : List ℕ) → 0 < length es → length es ≤ k →
+    AllByRecursion (λ x. x < 2 ^ 32) es →
+    entries_at k (listed_text es ++ 41 ∷ []) ≡ es ++ padding (k - length es)
 entries_back k [] some l h = absurd (omega arith)
 entries_back zero (e ∷ es) some l h = absurd (omega arith)
 entries_back (suc k) (e ∷ []) some l h =
@@ -68,7 +71,8 @@ pub zero_index : (m : List ℕ) → length m ≡ 5 → is_zero m ≡ true → 0 
 zero_index m five h = sym (zeros m (all_zero m h) ∙ ap padding five)
 
 -- the entries of a printed multiindex
-pub index_back : (dims : ℕ) (m : List ℕ) → 0 < dims → dims ≤ 5 → IsMultiIndex dims m → AllByRecursion (λ x. x < 2 ^ 32) m → entries_at 5 (listed_text (take dims m) ++ 41 ∷ []) ≡ m
+pub index_back : (dims : ℕ) (m : List ℕ) → 0 < dims → dims ≤ 5 → IsMultiIndex dims m →
+    AllByRecursion (λ x. x < 2 ^ 32) m → entries_at 5 (listed_text (take dims m) ++ 41 ∷ []) ≡ m
 index_back dims m some most h fits =
     let front : length (take dims m) ≡ dims = omega (arith, length-take dims m, h.entries) in
     let back : length (drop dims m) ≡ 5 - length (take dims m) = omega (arith, length-drop dims m, h.entries, front) in

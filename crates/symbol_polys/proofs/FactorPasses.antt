@@ -105,7 +105,9 @@ module _ (marks : List ℕ) (apart : AreApart marks) where
   multi_free dims m h =
       ((apart.opening, (refl, refl)), free-append marks (listed_text (take dims m)) (41 ∷ []) (listed_free (take dims m) (fits_front dims m h)) ((apart.closing, (refl, refl)), tt))
 
-  quoted_free : (dims : ℕ) (m : List ℕ) (b : Bool) → is_zero m ≡ b → AllByRecursion (λ x. x < 2 ^ 32) m → AreFree marks (if is_zero m then [] else 39 ∷ multi_text dims m)
+  quoted_free : (dims : ℕ) (m : List ℕ) (b : Bool) → is_zero m ≡ b →
+      AllByRecursion (λ x. x < 2 ^ 32) m →
+      AreFree marks (if is_zero m then [] else 39 ∷ multi_text dims m)
   quoted_free dims m true e h = rw e tt
   quoted_free dims m false e h = rw e ((apart.quote, (refl, refl)), multi_free dims m h)
 

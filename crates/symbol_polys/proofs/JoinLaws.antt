@@ -64,17 +64,23 @@ size_of-kept t ts =
       | false ↦ λ e. refl
     ]) refl
 
-pub all-kept : (P : List PlainSymbol → Type 0) (t : PlainTerm) (ts : List PlainTerm) → P t.symbols → AllByRecursion P (monomials ts) → AllByRecursion P (monomials (kept t ts))
+pub all-kept : (P : List PlainSymbol → Type 0) (t : PlainTerm) (ts : List PlainTerm) → P t.symbols →
+    AllByRecursion P (monomials ts) → AllByRecursion P (monomials (kept t ts))
 all-kept P t ts p h = elim (is_zero t.coefficient) as (λ b. AllByRecursion P (monomials (cond b ts (t ∷ ts)))) [ true ↦ h | false ↦ (p, h) ]
 
-pub not_zero-kept : (t : PlainTerm) (ts : List PlainTerm) → AllByRecursion (λ u. 0 < unsigned_abs u.coefficient) ts → AllByRecursion (λ u. 0 < unsigned_abs u.coefficient) (kept t ts)
+pub not_zero-kept : (t : PlainTerm) (ts : List PlainTerm) →
+    AllByRecursion (λ u. 0 < unsigned_abs u.coefficient) ts →
+    AllByRecursion (λ u. 0 < unsigned_abs u.coefficient) (kept t ts)
 not_zero-kept t ts h =
     (elim (is_zero t.coefficient) as (λ b. is_zero t.coefficient ≡ b → AllByRecursion (λ u. 0 < unsigned_abs u.coefficient) (cond b ts (t ∷ ts))) [
       | true ↦ λ e. h
       | false ↦ λ e. (some t.coefficient e, h)
     ]) refl
 
-pub strict-kept : (t : PlainTerm) (ts : List PlainTerm) → AllByRecursion (λ m. monomial_order t.symbols m ≡ Less) (monomials ts) → IsStrictlySortedBy monomial_order (monomials ts) → IsStrictlySortedBy monomial_order (monomials (kept t ts))
+pub strict-kept : (t : PlainTerm) (ts : List PlainTerm) →
+    AllByRecursion (λ m. monomial_order t.symbols m ≡ Less) (monomials ts) →
+    IsStrictlySortedBy monomial_order (monomials ts) →
+    IsStrictlySortedBy monomial_order (monomials (kept t ts))
 unfolding IsStrictlySortedBy
 strict-kept t ts p h = elim (is_zero t.coefficient) as (λ b. IsStrictlySortedBy monomial_order (monomials (cond b ts (t ∷ ts)))) [ true ↦ h | false ↦ (p, h) ]
 
@@ -116,7 +122,8 @@ size_of-join_onto t (u ∷ us) =
       | Greater ↦ apart
     ]
 
-all-join_onto : (P : List PlainSymbol → Type 0) (t : PlainTerm) (us : List PlainTerm) → P t.symbols → AllByRecursion P (monomials us) → AllByRecursion P (monomials (join_onto t us))
+all-join_onto : (P : List PlainSymbol → Type 0) (t : PlainTerm) (us : List PlainTerm) →
+    P t.symbols → AllByRecursion P (monomials us) → AllByRecursion P (monomials (join_onto t us))
 all-join_onto P t [] p h = all-kept P t [] p tt
 all-join_onto P t (u ∷ us) p h =
     let apart = all-kept P t (join_onto u us) p (all-join_onto P u us h.0 h.1) in
@@ -147,7 +154,9 @@ ascends : (ts : List PlainTerm) → IsSorted term_order ts → Ascends ts
 ascends [] h = tt
 ascends (t ∷ ts) h = (first_is_least term_order term_order_total t ts h, ascends ts (sorted-rest term_order term_order_total t ts h))
 
-above_all : (t u : PlainTerm) (us : List PlainTerm) → monomial_order t.symbols u.symbols ≡ Less → AllByRecursion (λ v. is_lt (term_order v u) ≡ false) us → AllByRecursion (λ m. monomial_order t.symbols m ≡ Less) (monomials us)
+above_all : (t u : PlainTerm) (us : List PlainTerm) → monomial_order t.symbols u.symbols ≡ Less →
+    AllByRecursion (λ v. is_lt (term_order v u) ≡ false) us →
+    AllByRecursion (λ m. monomial_order t.symbols m ≡ Less) (monomials us)
 above_all t u [] h a = tt
 above_all t u (v ∷ us) h a = (less-through term_order term_order_total t u v (term_order v u) refl a.0 h, above_all t u us h a.1)
 
@@ -208,7 +217,9 @@ same_term t u h k = ap (λ (c : ℤ). made c t.symbols) h ∙ ap (λ (m : List P
 abbrev pub IsJoinedSoFar : List PlainTerm → List PlainTerm → PlainTerm → Type 0
 IsJoinedSoFar done ts t = (us : List PlainTerm) → ts ++ join_onto t us ≡ join_onto no_sum (done ++ us)
 
-pub joined_more : (done ts : List PlainTerm) (t u t' : PlainTerm) → IsJoinedSoFar done ts t → Equal ≡ monomial_order t.symbols u.symbols → t'.coefficient ≡ t.coefficient +ℤ u.coefficient → t'.symbols ≡ t.symbols →
+pub joined_more : (done ts : List PlainTerm) (t u t' : PlainTerm) → IsJoinedSoFar done ts t →
+    Equal ≡ monomial_order t.symbols u.symbols → t'.coefficient ≡ t.coefficient +ℤ u.coefficient →
+    t'.symbols ≡ t.symbols →
     IsJoinedSoFar (done ++ u ∷ []) ts t'
 joined_more done ts t u t' h e c m = λ us.
     ap (λ (v : PlainTerm). ts ++ join_onto v us) (same_term t' (plus t u) c m)
@@ -216,7 +227,9 @@ joined_more done ts t u t' h e c m = λ us.
     ∙ h (u ∷ us)
     ∙ ap (λ (vs : List PlainTerm). join_onto no_sum vs) (sym (append_assoc done (u ∷ []) us))
 
-pub joined_next : (done ts ts' : List PlainTerm) (t u : PlainTerm) → IsJoinedSoFar done ts t → (monomial_order t.symbols u.symbols ≡ Equal → ⊥) → ((us : List PlainTerm) → ts' ++ us ≡ ts ++ kept t us) →
+pub joined_next : (done ts ts' : List PlainTerm) (t u : PlainTerm) → IsJoinedSoFar done ts t →
+    (monomial_order t.symbols u.symbols ≡ Equal → ⊥) →
+    ((us : List PlainTerm) → ts' ++ us ≡ ts ++ kept t us) →
     IsJoinedSoFar (done ++ u ∷ []) ts' u
 joined_next done ts ts' t u h e k = λ us.
     k (join_onto u us)
@@ -224,7 +237,8 @@ joined_next done ts ts' t u h e k = λ us.
     ∙ h (u ∷ us)
     ∙ ap (λ (vs : List PlainTerm). join_onto no_sum vs) (sym (append_assoc done (u ∷ []) us))
 
-pub joined_all : (done ts ts' : List PlainTerm) (t : PlainTerm) → IsJoinedSoFar done ts t → ((us : List PlainTerm) → ts' ++ us ≡ ts ++ kept t us) → ts' ≡ join_onto no_sum done
+pub joined_all : (done ts ts' : List PlainTerm) (t : PlainTerm) → IsJoinedSoFar done ts t →
+    ((us : List PlainTerm) → ts' ++ us ≡ ts ++ kept t us) → ts' ≡ join_onto no_sum done
 joined_all done ts ts' t h k =
     sym (append-nil ts') ∙ k [] ∙ h [] ∙ ap (λ (vs : List PlainTerm). join_onto no_sum vs) (append-nil done)
 
@@ -236,7 +250,9 @@ zero_is (negsuc n) h = absurd cc
 not_zero : (z : ℤ) → is_zero z ≡ false → z ≢ pos 0
 not_zero z h = λ e. let k : is_zero z ≡ true = ap is_zero e in absurd cc
 
-pub closes : (ts ts' : List PlainTerm) (t : PlainTerm) → (t.coefficient ≡ pos 0 → ts' ≡ ts) → (t.coefficient ≢ pos 0 → ts' ≡ ts ++ t ∷ []) → (us : List PlainTerm) → ts' ++ us ≡ ts ++ kept t us
+pub closes : (ts ts' : List PlainTerm) (t : PlainTerm) → (t.coefficient ≡ pos 0 → ts' ≡ ts) →
+    (t.coefficient ≢ pos 0 → ts' ≡ ts ++ t ∷ []) → (us : List PlainTerm) →
+    ts' ++ us ≡ ts ++ kept t us
 closes ts ts' t h k us =
     (elim (is_zero t.coefficient) as (λ b. is_zero t.coefficient ≡ b → ts' ++ us ≡ ts ++ cond b us (t ∷ us)) [
       | true ↦ λ e. ap (λ (xs : List PlainTerm). xs ++ us) (h (zero_is t.coefficient e))

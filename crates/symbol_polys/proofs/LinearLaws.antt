@@ -1,4 +1,5 @@
--- A sum over a list of terms that is linear in their coefficients depends on the coefficients of the monomials alone.
+-- A sum over a list of terms that is linear in their coefficients depends on the coefficients of
+-- the monomials alone.
 use Rattle.std.proofs.Common.{◌≡◌, ◌<◌, cond, List, [], ◌∷◌, ℤ, pos, ◌+ℤ◌, unsigned_abs, Bool, true, false, refl, sym, ap, subst, ◌∙◌, arith, Ordering, Less, Equal, Greater}
 use Rattle.std.specs.List.{AllByRecursion}
 use Rattle.std.specs.List.Sorted.{IsStrictlySortedBy}
@@ -37,20 +38,27 @@ here_alone : (b : Bool) (c r : ℤ) → b ≡ true → r ≡ pos 0 → cond b c 
 here_alone true c r h k = omega (arith, ints, k)
 here_alone false c r h k = absurd cc
 
-own : (t : PlainTerm) (ts : List PlainTerm) → AllByRecursion (λ n. monomial_order t.symbols n ≡ Less) (monomials ts) → coefficient_of t.symbols (t ∷ ts) ≡ t.coefficient
+own : (t : PlainTerm) (ts : List PlainTerm) →
+    AllByRecursion (λ n. monomial_order t.symbols n ≡ Less) (monomials ts) →
+    coefficient_of t.symbols (t ∷ ts) ≡ t.coefficient
 own t ts h = here_alone (is_eq (monomial_order t.symbols t.symbols)) t.coefficient (coefficient_of t.symbols ts) (ap is_eq (monomial_order_self t.symbols)) (absent t.symbols ts h)
 
 not_none : (c d : ℤ) → 0 < unsigned_abs c → c ≡ d → d ≡ pos 0 → ⊥
 not_none c d h e k = omega (arith, ints, h, e, k)
 
-below_all : (m n : List PlainSymbol) (ts : List PlainTerm) → monomial_order m n ≡ Less → AllByRecursion (λ k. monomial_order n k ≡ Less) (monomials ts) → AllByRecursion (λ k. monomial_order m k ≡ Less) (monomials ts)
+below_all : (m n : List PlainSymbol) (ts : List PlainTerm) → monomial_order m n ≡ Less →
+    AllByRecursion (λ k. monomial_order n k ≡ Less) (monomials ts) →
+    AllByRecursion (λ k. monomial_order m k ≡ Less) (monomials ts)
 below_all m n [] h a = tt
 below_all m n (t ∷ ts) h a = (monomial_order_total.trans m n t.symbols h a.0, below_all m n ts h a.1)
 
 cancelled : (a b x y : ℤ) → a ≡ b → a +ℤ x ≡ b +ℤ y → x ≡ y
 cancelled a b x y h k = omega (arith, ints, h, k)
 
-pub determined : (ts us : List PlainTerm) → IsStrictlySortedBy monomial_order (monomials ts) → IsStrictlySortedBy monomial_order (monomials us) → AllByRecursion (λ t. 0 < unsigned_abs t.coefficient) ts → AllByRecursion (λ t. 0 < unsigned_abs t.coefficient) us →
+pub determined : (ts us : List PlainTerm) → IsStrictlySortedBy monomial_order (monomials ts) →
+    IsStrictlySortedBy monomial_order (monomials us) →
+    AllByRecursion (λ t. 0 < unsigned_abs t.coefficient) ts →
+    AllByRecursion (λ t. 0 < unsigned_abs t.coefficient) us →
     HaveSameCoefficients ts us → ts ≡ us
 unfolding IsStrictlySortedBy
 determined [] [] st su nt nu h = refl
@@ -87,7 +95,8 @@ abbrev pub normal : List PlainTerm → List PlainTerm
 normal [] = []
 normal (t ∷ ts) = with_term t (normal ts)
 
-pub all-with_term : (P : List PlainSymbol → Type 0) (t : PlainTerm) (us : List PlainTerm) → P t.symbols → AllByRecursion P (monomials us) → AllByRecursion P (monomials (with_term t us))
+pub all-with_term : (P : List PlainSymbol → Type 0) (t : PlainTerm) (us : List PlainTerm) →
+    P t.symbols → AllByRecursion P (monomials us) → AllByRecursion P (monomials (with_term t us))
 all-with_term P t [] p h = all-kept P t [] p tt
 all-with_term P t (u ∷ us) p h =
     elim (monomial_order t.symbols u.symbols) as (λ (o : Ordering). AllByRecursion P (monomials (with_term_at o t u us (with_term t us)))) [
@@ -96,7 +105,9 @@ all-with_term P t (u ∷ us) p h =
       | Greater ↦ (h.0, all-with_term P t us p h.1)
     ]
 
-strict-with_term : (t : PlainTerm) (us : List PlainTerm) → IsStrictlySortedBy monomial_order (monomials us) → IsStrictlySortedBy monomial_order (monomials (with_term t us))
+strict-with_term : (t : PlainTerm) (us : List PlainTerm) →
+    IsStrictlySortedBy monomial_order (monomials us) →
+    IsStrictlySortedBy monomial_order (monomials (with_term t us))
 unfolding IsStrictlySortedBy
 strict-with_term t [] h = strict-kept t [] tt tt
 strict-with_term t (u ∷ us) h =
@@ -112,7 +123,9 @@ unfolding IsStrictlySortedBy
 strict-normal [] = tt
 strict-normal (t ∷ ts) = strict-with_term t (normal ts) (strict-normal ts)
 
-not_zero-with_term : (t : PlainTerm) (us : List PlainTerm) → AllByRecursion (λ u. 0 < unsigned_abs u.coefficient) us → AllByRecursion (λ u. 0 < unsigned_abs u.coefficient) (with_term t us)
+not_zero-with_term : (t : PlainTerm) (us : List PlainTerm) →
+    AllByRecursion (λ u. 0 < unsigned_abs u.coefficient) us →
+    AllByRecursion (λ u. 0 < unsigned_abs u.coefficient) (with_term t us)
 not_zero-with_term t [] h = not_zero-kept t [] tt
 not_zero-with_term t (u ∷ us) h =
     elim (monomial_order t.symbols u.symbols) as (λ (o : Ordering). AllByRecursion (λ v. 0 < unsigned_abs v.coefficient) (with_term_at o t u us (with_term t us))) [

@@ -25,7 +25,8 @@ all-with_symbol P s (t ∷ m) p h =
       | false ↦ (p, h)
     ]
 
-pub all-monomial_product : (P : PlainSymbol → Type 0) (m n : List PlainSymbol) → AllByRecursion P m → AllByRecursion P n → AllByRecursion P (monomial_product m n)
+pub all-monomial_product : (P : PlainSymbol → Type 0) (m n : List PlainSymbol) →
+    AllByRecursion P m → AllByRecursion P n → AllByRecursion P (monomial_product m n)
 all-monomial_product P [] n h k = k
 all-monomial_product P (s ∷ m) n h k = all-with_symbol P s (monomial_product m n) h.0 (all-monomial_product P m n h.1 k)
 
@@ -91,19 +92,23 @@ monomial_product-one (s ∷ m) h =
     ∙ with_symbol-least s m (first_is_least symbol_order symbol_order_total s m h)
 
 -- the least symbol of the first, and of the second, is that of the product
-first_is_next : (s : PlainSymbol) (m n : List PlainSymbol) → IsSorted symbol_order (s ∷ m) → AllByRecursion (IsAtLeast s) n → monomial_product (s ∷ m) n ≡ s ∷ monomial_product m n
+first_is_next : (s : PlainSymbol) (m n : List PlainSymbol) → IsSorted symbol_order (s ∷ m) →
+    AllByRecursion (IsAtLeast s) n → monomial_product (s ∷ m) n ≡ s ∷ monomial_product m n
 first_is_next s m n h a = with_symbol-least s (monomial_product m n) (all-monomial_product (IsAtLeast s) m n (first_is_least symbol_order symbol_order_total s m h) a)
 
 greater : (a b : Ordering) → b ≡ ordering_reverse a → a ≡ Less → is_gt b ≡ true
 greater a b e h = rw (e, h) refl
 
-second_is_next : (m : List PlainSymbol) (t : PlainSymbol) (n : List PlainSymbol) → AllByRecursion (λ s. symbol_order t s ≡ Less) m → monomial_product m (t ∷ n) ≡ t ∷ monomial_product m n
+second_is_next : (m : List PlainSymbol) (t : PlainSymbol) (n : List PlainSymbol) →
+    AllByRecursion (λ s. symbol_order t s ≡ Less) m →
+    monomial_product m (t ∷ n) ≡ t ∷ monomial_product m n
 second_is_next [] t n a = refl
 second_is_next (s ∷ m) t n a =
     ap (with_symbol s) (second_is_next m t n a.1)
     ∙ rw (greater (symbol_order t s) (symbol_order s t) (symbol_order_total.antisymm s t) a.0) refl
 
-less_all : (t s : PlainSymbol) (m : List PlainSymbol) → symbol_order t s ≡ Less → AllByRecursion (IsAtLeast s) m → AllByRecursion (λ u. symbol_order t u ≡ Less) m
+less_all : (t s : PlainSymbol) (m : List PlainSymbol) → symbol_order t s ≡ Less →
+    AllByRecursion (IsAtLeast s) m → AllByRecursion (λ u. symbol_order t u ≡ Less) m
 less_all t s [] h a = tt
 less_all t s (u ∷ m) h a = (less-through symbol_order symbol_order_total t s u (symbol_order u s) refl a.0 h, less_all t s m h a.1)
 
@@ -118,7 +123,8 @@ not_greater Greater b e h = absurd (h refl)
 symbols : List Symbol → List PlainSymbol
 symbols xs = map symbol_of xs
 
-pub second_step : (a b : List Symbol) (i j : ℕ) (x y : Symbol) → i < length a → j < length b → x ≡ get_or a i x → y ≡ get_or b j y → IsSorted symbol_order (map symbol_of (drop i a)) →
+pub second_step : (a b : List Symbol) (i j : ℕ) (x y : Symbol) → i < length a → j < length b →
+    x ≡ get_or a i x → y ≡ get_or b j y → IsSorted symbol_order (map symbol_of (drop i a)) →
     Greater ≡ symbol_order (symbol_of x) (symbol_of y) →
     monomial_product (map symbol_of (drop i a)) (map symbol_of (drop j b)) ≡ symbol_of y ∷ monomial_product (map symbol_of (drop i a)) (map symbol_of (drop (j + 1) b))
 second_step a b i j x y ha hb ex ey sa o =
@@ -131,7 +137,9 @@ second_step a b i j x y ha hb ex ey sa o =
     let sorted : IsSorted symbol_order (s ∷ m) = rw da at sa in
     rw (da, db) (second_is_next (s ∷ m) t (map symbol_of (drop (j + 1) b)) (less, less_all t s m less (first_is_least symbol_order symbol_order_total s m sorted)))
 
-pub first_step : (a b : List Symbol) (i j : ℕ) (x y : Symbol) → i < length a → j < length b → x ≡ get_or a i x → y ≡ get_or b j y → IsSorted symbol_order (map symbol_of (drop i a)) → IsSorted symbol_order (map symbol_of (drop j b)) →
+pub first_step : (a b : List Symbol) (i j : ℕ) (x y : Symbol) → i < length a → j < length b →
+    x ≡ get_or a i x → y ≡ get_or b j y → IsSorted symbol_order (map symbol_of (drop i a)) →
+    IsSorted symbol_order (map symbol_of (drop j b)) →
     (symbol_order (symbol_of x) (symbol_of y) ≡ Greater → ⊥) →
     monomial_product (map symbol_of (drop i a)) (map symbol_of (drop j b)) ≡ symbol_of x ∷ monomial_product (map symbol_of (drop (i + 1) a)) (map symbol_of (drop j b))
 first_step a b i j x y ha hb ex ey sa sb o =
@@ -144,7 +152,9 @@ first_step a b i j x y ha hb ex ey sa sb o =
     let sorted : IsSorted symbol_order (t ∷ n) = rw db at sb in
     rw (da, db) (first_is_next s (map symbol_of (drop (i + 1) a)) (t ∷ n) (rw da at sa) (first, at_least_all s t n first (first_is_least symbol_order symbol_order_total t n sorted)))
 
-pub sorted_after : (a : List Symbol) (i : ℕ) (x : Symbol) → i < length a → x ≡ get_or a i x → IsSorted symbol_order (map symbol_of (drop i a)) → IsSorted symbol_order (map symbol_of (drop (i + 1) a))
+pub sorted_after : (a : List Symbol) (i : ℕ) (x : Symbol) → i < length a → x ≡ get_or a i x →
+    IsSorted symbol_order (map symbol_of (drop i a)) →
+    IsSorted symbol_order (map symbol_of (drop (i + 1) a))
 sorted_after a i x h e s =
     let da : drop i a ≡ x ∷ drop (i + 1) a = grind (arith, common_steps) in
     sorted-rest symbol_order symbol_order_total (symbol_of x) (map symbol_of (drop (i + 1) a)) (rw da at s)
@@ -154,7 +164,8 @@ symbols-push : (p : List Symbol) (x : Symbol) (ns : List PlainSymbol) → map sy
 symbols-push [] x ns = refl
 symbols-push (y ∷ p) x ns = ap (λ (ms : List PlainSymbol). symbol_of y ∷ ms) (symbols-push p x ns)
 
-pub taken : (p p' : List Symbol) (x : Symbol) (ms ns all : List PlainSymbol) → p' ≡ p ++ x ∷ [] → ms ≡ symbol_of x ∷ ns → map symbol_of p ++ ms ≡ all → map symbol_of p' ++ ns ≡ all
+pub taken : (p p' : List Symbol) (x : Symbol) (ms ns all : List PlainSymbol) → p' ≡ p ++ x ∷ [] →
+    ms ≡ symbol_of x ∷ ns → map symbol_of p ++ ms ≡ all → map symbol_of p' ++ ns ≡ all
 taken p p' x ms ns all e h k = ap (λ (q : List Symbol). map symbol_of q ++ ns) e ∙ symbols-push p x ns ∙ ap (λ (ks : List PlainSymbol). map symbol_of p ++ ks) (sym h) ∙ k
 
 symbols-append : (p q : List Symbol) → map symbol_of (p ++ q) ≡ map symbol_of p ++ map symbol_of q
@@ -165,7 +176,9 @@ at_end : (i n : ℕ) → (i < n → ⊥) → n ≤ i
 at_end i n h = elim (cases_lt i n) [ inl l ↦ absurd (h l) | inr k ↦ k ]
 
 -- what is left of the one is the product where nothing is left of the other
-rest_is_product : (a b : List Symbol) (i j : ℕ) → IsSorted symbol_order (map symbol_of (drop i a)) → (i < length a → j < length b → ⊥) → map symbol_of (drop i a) ++ map symbol_of (drop j b) ≡ monomial_product (map symbol_of (drop i a)) (map symbol_of (drop j b))
+rest_is_product : (a b : List Symbol) (i j : ℕ) → IsSorted symbol_order (map symbol_of (drop i a)) →
+    (i < length a → j < length b → ⊥) →
+    map symbol_of (drop i a) ++ map symbol_of (drop j b) ≡ monomial_product (map symbol_of (drop i a)) (map symbol_of (drop j b))
 rest_is_product a b i j s h =
     elim (cases_lt j (length b)) [
       | inl more ↦
@@ -176,7 +189,9 @@ rest_is_product a b i j s h =
           rw none (append-nil (map symbol_of (drop i a)) ∙ sym (monomial_product-one (map symbol_of (drop i a)) s))
     ]
 
-pub product_ends : (a b p p' p'' : List Symbol) (i j : ℕ) (all : List PlainSymbol) → IsSorted symbol_order (map symbol_of (drop i a)) → (i < length a → j < length b → ⊥) → p' ≡ p ++ drop i a → p'' ≡ p' ++ drop j b →
+pub product_ends : (a b p p' p'' : List Symbol) (i j : ℕ) (all : List PlainSymbol) →
+    IsSorted symbol_order (map symbol_of (drop i a)) → (i < length a → j < length b → ⊥) →
+    p' ≡ p ++ drop i a → p'' ≡ p' ++ drop j b →
     map symbol_of p ++ monomial_product (map symbol_of (drop i a)) (map symbol_of (drop j b)) ≡ all → map symbol_of p'' ≡ all
 product_ends a b p p' p'' i j all s h e f k =
     ap (λ (q : List Symbol). map symbol_of q) (f ∙ ap (λ (q : List Symbol). q ++ drop j b) e ∙ append_assoc p (drop i a) (drop j b))

@@ -64,14 +64,17 @@ no_tree : HasBoundedTree (noise 0)
 no_tree = (tt, record { edges = omega arith; decorations = omega arith })
 
 module _ (ty : Types) (ps : List (List ℕ)) where
-  of_variable : (k : ℕ) (text : List ℕ) (o : Option (List ℕ)) (s : PlainSymbol) → kind_of ty k ≡ Some Kernel → multi_behind ty.dims text ≡ o → variable_of k o ≡ Some s → IsSymbolOf ty ps s
+  of_variable : (k : ℕ) (text : List ℕ) (o : Option (List ℕ)) (s : PlainSymbol) →
+      kind_of ty k ≡ Some Kernel → multi_behind ty.dims text ≡ o → variable_of k o ≡ Some s →
+      IsSymbolOf ty ps s
   of_variable k text None s kind e h = absurd cc
   of_variable k text (Some m) s kind e h =
       let w : variable k m ≡ s = cc in
       let r = multi_read ty.dims text m e in
       subst (IsSymbolOf ty ps) w record { over = (kind, r.0); bounded = no_tree; entries = r.1 }
 
-  of_kinds : (k : ℕ) (text : List ℕ) (o : Option Kind) (s : PlainSymbol) → kind_of ty k ≡ o → of_kind o k (multi_behind ty.dims text) ≡ Some s → IsSymbolOf ty ps s
+  of_kinds : (k : ℕ) (text : List ℕ) (o : Option Kind) (s : PlainSymbol) → kind_of ty k ≡ o →
+      of_kind o k (multi_behind ty.dims text) ≡ Some s → IsSymbolOf ty ps s
   of_kinds k text None s e h = absurd cc
   of_kinds k text (Some Noise) s e h = let w : noise k ≡ s = cc in subst (IsSymbolOf ty ps) w record { over = e; bounded = no_tree; entries = tt }
   of_kinds k text (Some Kernel) s e h = of_variable k text (multi_behind ty.dims text) s e refl h
@@ -80,7 +83,8 @@ module _ (ty : Types) (ps : List (List ℕ)) where
   of_types None text s h = absurd cc
   of_types (Some k) text s h = of_kinds k text (kind_of ty k) s refl h
 
-  of_names : (name text : List ℕ) (o : Option ℕ) (s : PlainSymbol) → parameter_number ps name ≡ o → of_parameter o (of_type ty (number_named ty name) text) ≡ Some s → IsSymbolOf ty ps s
+  of_names : (name text : List ℕ) (o : Option ℕ) (s : PlainSymbol) → parameter_number ps name ≡ o →
+      of_parameter o (of_type ty (number_named ty name) text) ≡ Some s → IsSymbolOf ty ps s
   of_names name text None s e h = of_types (number_named ty name) text s h
   of_names name text (Some i) s e h =
       let w : parameter i ≡ s = cc in

@@ -9,7 +9,8 @@ use Rattle.tree_grammar.specs.Grammar.{Written, root, leaf, planted, entries_ont
 use Rattle.tree_grammar.proofs.WordSums.{AreNameBytes, name_bytes, number_bytes}
 use Rattle.symbol_polys.specs.Pieces.{is_mark, depth_after, pieces_from}
 
--- from d open brackets the text leads to e open brackets, and no mark in it stands outside all brackets
+-- from d open brackets the text leads to e open brackets, and no mark in it stands outside all
+-- brackets
 abbrev pub Passes : List ℕ → ℕ → List ℕ → ℕ → Type 0
 Passes marks d [] e = d ≡ e
 Passes marks d (c ∷ cs) e = ((d == 0 && is_mark marks c) ≡ false) × Passes marks (depth_after d c) cs e
@@ -83,7 +84,9 @@ module _ (marks : List ℕ) (e : ℕ) where
   entries_inside d (v ∷ w ∷ es) s p h k =
       bytes_inside d v (44 ∷ entries_onto (w ∷ es) s) p (number_bytes v h.0) (byte_inside d 44 (entries_onto (w ∷ es) s) p (refl, refl) (entries_inside d (w ∷ es) s p h.1 k))
 
-  opened_inside : (d c : ℕ) (es : List (List ℕ)) (s : List ℕ) → 0 < d → NoBracket c → AllByRecursion IsNumber es → Passes marks d s e → Passes marks d (c ∷ 40 ∷ entries_onto es s) e
+  opened_inside : (d c : ℕ) (es : List (List ℕ)) (s : List ℕ) → 0 < d → NoBracket c →
+      AllByRecursion IsNumber es → Passes marks d s e →
+      Passes marks d (c ∷ 40 ∷ entries_onto es s) e
   opened_inside d c es s p b h k = byte_inside d c (40 ∷ entries_onto es s) p b (byte_inside d 40 (entries_onto es s) p (refl, refl) (entries_inside d es s p h k))
 
   multi_inside : (dims d : ℕ) (x : Option (List (List ℕ))) (s : List ℕ) → 0 < d → IsMulti dims x → Passes marks d s e → Passes marks d (quoted_onto x s) e
@@ -98,7 +101,9 @@ module _ (marks : List ℕ) (e : ℕ) where
   unstarred_inside d (leaf n p t) s k = behind_first d 42 (n ++ quoted_onto p (starred_onto t s)) (refl, refl) k
   unstarred_inside d (planted n p c t) s k = behind_first d 42 (n ++ quoted_onto p (91 ∷ inside (written_root c) c (starred_onto c (93 ∷ starred_onto t s)))) (refl, refl) k
 
-  inside_inside : (dims d : ℕ) (x : Option (List (List ℕ))) (t : Written) (s : List ℕ) → 0 < d → IsMulti dims x → Passes marks d (starred_onto t s) e → Passes marks d (inside x t (starred_onto t s)) e
+  inside_inside : (dims d : ℕ) (x : Option (List (List ℕ))) (t : Written) (s : List ℕ) → 0 < d →
+      IsMulti dims x → Passes marks d (starred_onto t s) e →
+      Passes marks d (inside x t (starred_onto t s)) e
   inside_inside dims d None t s p h k = unstarred_inside d t s k
   inside_inside dims d (Some es) t s p h k = opened_inside d 88 es (starred_onto t s) p (refl, refl) h.1 k
 

@@ -32,14 +32,17 @@ pieces_onward marks w (x ∷ xs) h =
     ap (λ (n : ℕ). pieces_from marks n (x.0 ∷ []) (x.1 ++ onward xs)) h.0.1.0 ∙ pieces_pass marks x.1 (onward xs) (x.0 ∷ []) 0 0 h.0.1.1 ∙ pieces_onward marks (marked x) xs h.1 in
     rw h.0.0 (ap (λ (ps : List (List ℕ)). w ∷ ps) next)
 
-pub pieces_first : (marks f : List ℕ) (xs : List (ℕ × List ℕ)) → Passes marks 0 f 0 → AllByRecursion (IsMarked marks) xs → pieces marks (f ++ onward xs) ≡ f ∷ map marked xs
+pub pieces_first : (marks f : List ℕ) (xs : List (ℕ × List ℕ)) → Passes marks 0 f 0 →
+    AllByRecursion (IsMarked marks) xs → pieces marks (f ++ onward xs) ≡ f ∷ map marked xs
 pieces_first marks f xs p h = pieces_pass marks f (onward xs) [] 0 0 p ∙ pieces_onward marks f xs h
 
 is_one : (n : ℕ) → (n == 1) ≡ true → 1 ≡ n
 is_one n h = sym (eqb-true n 1 h)
 
 module _ (ty : Types) (ps : List (List ℕ)) (types : AreTypes ty) (parameters : AreParameters ty ps) where
-  power_at : (x : Power) (b : Bool) → (x.exponent == 1) ≡ b → 0 < x.exponent → IsSymbolOf ty ps x.symbol → split_power (power_text ty ps x) ≡ Some (symbol_text ty ps x.symbol, x.exponent)
+  power_at : (x : Power) (b : Bool) → (x.exponent == 1) ≡ b → 0 < x.exponent →
+      IsSymbolOf ty ps x.symbol →
+      split_power (power_text ty ps x) ≡ Some (symbol_text ty ps x.symbol, x.exponent)
   power_at x true e above h =
       let base = symbol_text ty ps x.symbol in
       let passes = symbol_passes (94 ∷ []) carets_apart ty ps types parameters x.symbol h in
@@ -54,5 +57,6 @@ module _ (ty : Types) (ps : List (List ℕ)) (types : AreTypes ty) (parameters :
       rw e (ap (λ (v : List ℕ). split_power (base ++ 94 ∷ v)) (sym (append-nil ds)) ∙ ap split_parts cut
       ∙ rw (numeral_is x.exponent above) (ap (λ (n : ℕ). Some (base, n)) (numeral_digits x.exponent).value))
 
-  pub split_power_back : (x : Power) → 0 < x.exponent → IsSymbolOf ty ps x.symbol → split_power (power_text ty ps x) ≡ Some (symbol_text ty ps x.symbol, x.exponent)
+  pub split_power_back : (x : Power) → 0 < x.exponent → IsSymbolOf ty ps x.symbol →
+      split_power (power_text ty ps x) ≡ Some (symbol_text ty ps x.symbol, x.exponent)
   split_power_back x above h = power_at x (x.exponent == 1) refl above h

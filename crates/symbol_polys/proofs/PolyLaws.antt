@@ -50,7 +50,9 @@ coefficient_of-times_all z m (t ∷ ts) =
 pub above_zero : (a b : ℕ) → 0 < a → 0 < b → 0 < a * b
 above_zero a b p q = omega (arith, mul-le 1 1 a b (omega arith) (omega arith))
 
-not_zero-times_all : (z : ℤ) (ts : List PlainTerm) → 0 < unsigned_abs z → AllByRecursion (λ t. 0 < unsigned_abs t.coefficient) ts → AllByRecursion (λ t. 0 < unsigned_abs t.coefficient) (times_all z ts)
+not_zero-times_all : (z : ℤ) (ts : List PlainTerm) → 0 < unsigned_abs z →
+    AllByRecursion (λ t. 0 < unsigned_abs t.coefficient) ts →
+    AllByRecursion (λ t. 0 < unsigned_abs t.coefficient) (times_all z ts)
 not_zero-times_all z [] p h = tt
 not_zero-times_all z (t ∷ ts) p h =
     (omega (arith, unsigned_abs-mul z t.coefficient, above_zero (unsigned_abs z) (unsigned_abs t.coefficient) p h.0), not_zero-times_all z ts p h.1)
@@ -64,7 +66,8 @@ at_most m n h = omega (arith, ints)
 size_within : (z mass : ℤ) (ts : List PlainTerm) → pos (size_of ts) ≤ℤ mass → unsigned_abs z * size_of ts ≤ unsigned_abs z * unsigned_abs mass
 size_within z mass ts h = mul-le (unsigned_abs z) (size_of ts) (unsigned_abs z) (unsigned_abs mass) (omega arith) (below_mass (size_of ts) mass h)
 
-pub scaled : (z mass : ℤ) (ts : List PlainTerm) → 0 < unsigned_abs z → IsPolynomial mass ts → IsPolynomial (pos (unsigned_abs z * unsigned_abs mass)) (times_all z ts)
+pub scaled : (z mass : ℤ) (ts : List PlainTerm) → 0 < unsigned_abs z → IsPolynomial mass ts →
+    IsPolynomial (pos (unsigned_abs z * unsigned_abs mass)) (times_all z ts)
 scaled z mass ts p h = record {
   each = subst (λ ms. AllByRecursion IsMonomial ms) (sym (monomials-times_all z ts)) h.each;
   ascending = subst (λ ms. IsStrictlySortedBy monomial_order ms) (sym (monomials-times_all z ts)) h.ascending;
@@ -73,7 +76,8 @@ scaled z mass ts p h = record {
 }
 
 -- each term's symbols are a monomial
-pub each_at : (ts : List Term) (i : ℕ) (t : Term) → i < length ts → t ≡ get_or ts i t → AllByRecursion IsMonomial (monomials (terms_of ts)) → IsMonomial (map symbol_of t.symbols)
+pub each_at : (ts : List Term) (i : ℕ) (t : Term) → i < length ts → t ≡ get_or ts i t →
+    AllByRecursion IsMonomial (monomials (terms_of ts)) → IsMonomial (map symbol_of t.symbols)
 each_at [] i t h e a = absurd (omega arith)
 each_at (u ∷ ts) zero t h e a = rw e a.0
 each_at (u ∷ ts) (suc i) t h e a = each_at ts i t (omega arith) e a.1
@@ -87,7 +91,8 @@ size_at (u ∷ ts) (suc i) t h e = omega (arith, size_at ts i t (omega arith) e)
 pub below_at : (b x s : ℕ) → x ≤ s → b * s < overflow → b * x < overflow
 below_at b x s h k = omega (arith, mul-le b x b s (omega arith) h)
 
-pub below_scaled : (z mass : ℤ) (ts : List PlainTerm) → pos (size_of ts) ≤ℤ mass → unsigned_abs z * unsigned_abs mass < overflow → unsigned_abs z * size_of ts < overflow
+pub below_scaled : (z mass : ℤ) (ts : List PlainTerm) → pos (size_of ts) ≤ℤ mass →
+    unsigned_abs z * unsigned_abs mass < overflow → unsigned_abs z * size_of ts < overflow
 below_scaled z mass ts h k = omega (arith, size_within z mass ts h)
 
 in_range : (z : ℤ) → unsigned_abs z < overflow → FitsSigned w128 z
@@ -100,7 +105,9 @@ fits_product by z h = in_range (by *ℤ z) (omega (arith, unsigned_abs-mul by z)
 pub mass_kept : (n : ℕ) (z : ℤ) → z ≡ pos n → n < overflow → to_z w128 (of_z w128 z) ≡ pos n
 mass_kept n z h k = rw h (to_z-of_z w128 (pos n) (in_range (pos n) k))
 
-pub scaled_kept : (z w mass : ℤ) (ts : List PlainTerm) → 0 < unsigned_abs w → z ≡ pos (unsigned_abs w * unsigned_abs mass) → unsigned_abs w * unsigned_abs mass < overflow → IsPolynomial mass ts →
+pub scaled_kept : (z w mass : ℤ) (ts : List PlainTerm) → 0 < unsigned_abs w →
+    z ≡ pos (unsigned_abs w * unsigned_abs mass) → unsigned_abs w * unsigned_abs mass < overflow →
+    IsPolynomial mass ts →
     IsPolynomial (to_z w128 (of_z w128 z)) (times_all w ts)
 scaled_kept z w mass ts p h k f = rw (mass_kept (unsigned_abs w * unsigned_abs mass) z h k) (scaled w mass ts p f)
 

@@ -37,7 +37,8 @@ module _ (P : PlainSymbol → Type 0) where
   all-copies zero s h = tt
   all-copies (suc n) s h = (h, all-copies n s h)
 
-  pub copies_all : (old new : List Symbol) (n : ℕ) (s : Symbol) → new ≡ old ++ replicate n s → P (symbol_of s) → AllByRecursion P (map symbol_of old) → AllByRecursion P (map symbol_of new)
+  pub copies_all : (old new : List Symbol) (n : ℕ) (s : Symbol) → new ≡ old ++ replicate n s →
+      P (symbol_of s) → AllByRecursion P (map symbol_of old) → AllByRecursion P (map symbol_of new)
   copies_all old new n s e h a =
       subst (AllByRecursion P) (sym (copies_put old new n s e)) (all-append (map symbol_of old) (replicate n (symbol_of s)) a (all-copies n (symbol_of s) h))
 
@@ -50,16 +51,20 @@ module _ (ty : Types) (ps : List (List ℕ)) (types : AreTypes ty) (parameters :
   split_is : (text : List ℕ) (x : Power) → IsPowerOf ty ps x → power_text ty ps x ≡ text → split_power text ≡ Some (symbol_text ty ps x.symbol, x.exponent)
   split_is text x h e = ap split_power (sym e) ∙ split_power_back ty ps types parameters x h.0 h.1
 
-  pub refused_power : (text : List ℕ) (x : Power) (e : PolyError) → IsPowerOf ty ps x → power_text ty ps x ≡ text → (e ≡ Memory) ⊎ (split_power text ≡ None) → e ≡ Memory
+  pub refused_power : (text : List ℕ) (x : Power) (e : PolyError) → IsPowerOf ty ps x →
+      power_text ty ps x ≡ text → (e ≡ Memory) ⊎ (split_power text ≡ None) → e ≡ Memory
   refused_power text x e h is (inl m) = m
   refused_power text x e h is (inr n) = absurd (none_some (sym n ∙ split_is text x h is))
 
-  pub base_is : (text base : List ℕ) (n : ℕ) (x : Power) → split_power text ≡ Some (base, n) → IsPowerOf ty ps x → power_text ty ps x ≡ text → symbol_text ty ps x.symbol ≡ base
+  pub base_is : (text base : List ℕ) (n : ℕ) (x : Power) → split_power text ≡ Some (base, n) →
+      IsPowerOf ty ps x → power_text ty ps x ≡ text → symbol_text ty ps x.symbol ≡ base
   base_is text base n x e h is = ap (λ (p : List ℕ × ℕ). p.0) (some_is (sym (split_is text x h is) ∙ e))
 
-  pub exponent_is : (text base : List ℕ) (n : ℕ) (x : Power) → split_power text ≡ Some (base, n) → IsPowerOf ty ps x → power_text ty ps x ≡ text → x.exponent ≡ n
+  pub exponent_is : (text base : List ℕ) (n : ℕ) (x : Power) → split_power text ≡ Some (base, n) →
+      IsPowerOf ty ps x → power_text ty ps x ≡ text → x.exponent ≡ n
   exponent_is text base n x e h is = ap (λ (p : List ℕ × ℕ). p.1) (some_is (sym (split_is text x h is) ∙ e))
 
 -- one more power
-pub power_met : (done more whole : List PlainSymbol) (n : ℕ) (s : PlainSymbol) (next : List PlainSymbol) → next ≡ done ++ replicate n s → done ++ (replicate n s ++ more) ≡ whole → next ++ more ≡ whole
+pub power_met : (done more whole : List PlainSymbol) (n : ℕ) (s : PlainSymbol) (next : List PlainSymbol) →
+    next ≡ done ++ replicate n s → done ++ (replicate n s ++ more) ≡ whole → next ++ more ≡ whole
 power_met done more whole n s next e h = ap (λ (m : List PlainSymbol). m ++ more) e ∙ append_assoc done (replicate n s) more ∙ h

@@ -1,4 +1,5 @@
--- The product of lists of terms is commutative, associative and distributive, up to the coefficients of monomials.
+-- The product of lists of terms is commutative, associative and distributive, up to the
+-- coefficients of monomials.
 use Rattle.std.proofs.Common.{◌≡◌, ◌+◌, cond, List, [], ◌∷◌, ◌++◌, ℤ, pos, ◌+ℤ◌, ◌*ℤ◌, true, false, refl, sym, ap, ◌∙◌, arith, append_assoc, append-nil}
 use Rattle.std.specs.Ordering.{is_eq, is_gt}
 use Rattle.std.specs.List.{AllByRecursion}
@@ -16,7 +17,8 @@ use Rattle.symbol_polys.proofs.AddLaws.{coefficient_of-append}
 use Rattle.symbol_polys.proofs.JoinLaws.{at, same_term}
 
 -- the symbols of a product
-count-with_symbol : (z s : PlainSymbol) (m : List PlainSymbol) → count_of symbol_order z (with_symbol s m) ≡ cond (is_eq (symbol_order z s)) 1 0 + count_of symbol_order z m
+count-with_symbol : (z s : PlainSymbol) (m : List PlainSymbol) →
+    count_of symbol_order z (with_symbol s m) ≡ cond (is_eq (symbol_order z s)) 1 0 + count_of symbol_order z m
 count-with_symbol z s [] = refl
 count-with_symbol z s (t ∷ m) =
     elim (is_gt (symbol_order s t)) as (λ b. count_of symbol_order z (cond b (t ∷ with_symbol s m) (s ∷ t ∷ m)) ≡ cond (is_eq (symbol_order z s)) 1 0 + count_of symbol_order z (t ∷ m)) [
@@ -24,7 +26,8 @@ count-with_symbol z s (t ∷ m) =
       | false ↦ refl
     ]
 
-pub count-product : (z : PlainSymbol) (m n : List PlainSymbol) → count_of symbol_order z (monomial_product m n) ≡ count_of symbol_order z m + count_of symbol_order z n
+pub count-product : (z : PlainSymbol) (m n : List PlainSymbol) →
+    count_of symbol_order z (monomial_product m n) ≡ count_of symbol_order z m + count_of symbol_order z n
 count-product z [] n = omega arith
 count-product z (s ∷ m) n = omega (arith, count-with_symbol z s (monomial_product m n), count-product z m n)
 
@@ -35,7 +38,9 @@ pub monomial_product-commutative : (m n : List PlainSymbol) → IsMonomial m →
 monomial_product-commutative m n h k =
     same_monomial (monomial_product m n) (monomial_product n m) (is_monomial-product m n h k) (is_monomial-product n m k h) (λ z. omega (arith, count-product z m n, count-product z n m))
 
-pub monomial_product-associative : (m n k : List PlainSymbol) → IsMonomial m → IsMonomial n → IsMonomial k → monomial_product (monomial_product m n) k ≡ monomial_product m (monomial_product n k)
+pub monomial_product-associative : (m n k : List PlainSymbol) → IsMonomial m → IsMonomial n →
+    IsMonomial k →
+    monomial_product (monomial_product m n) k ≡ monomial_product m (monomial_product n k)
 monomial_product-associative m n k hm hn hk =
     same_monomial (monomial_product (monomial_product m n) k) (monomial_product m (monomial_product n k))
     (is_monomial-product (monomial_product m n) k (is_monomial-product m n hm hn) hk) (is_monomial-product m (monomial_product n k) hm (is_monomial-product n k hn hk))
@@ -45,7 +50,8 @@ monomial_product-associative m n k hm hn hk =
 term_product-commutative : (t u : PlainTerm) → IsMonomial t.symbols → IsMonomial u.symbols → term_product t u ≡ term_product u t
 term_product-commutative t u h k = same_term (term_product t u) (term_product u t) (*ℤ_comm t.coefficient u.coefficient) (monomial_product-commutative t.symbols u.symbols h k)
 
-term_product-associative : (t u v : PlainTerm) → IsMonomial t.symbols → IsMonomial u.symbols → IsMonomial v.symbols → term_product (term_product t u) v ≡ term_product t (term_product u v)
+term_product-associative : (t u v : PlainTerm) → IsMonomial t.symbols → IsMonomial u.symbols →
+    IsMonomial v.symbols → term_product (term_product t u) v ≡ term_product t (term_product u v)
 term_product-associative t u v ht hu hv =
     same_term (term_product (term_product t u) v) (term_product t (term_product u v)) (times_times t.coefficient u.coefficient v.coefficient) (monomial_product-associative t.symbols u.symbols v.symbols ht hu hv)
 
@@ -58,20 +64,26 @@ products_with-append : (t : PlainTerm) (us vs : List PlainTerm) → products_wit
 products_with-append t [] vs = refl
 products_with-append t (u ∷ us) vs = ap (λ (xs : List PlainTerm). term_product t u ∷ xs) (products_with-append t us vs)
 
-with_with : (t u : PlainTerm) (vs : List PlainTerm) → IsMonomial t.symbols → IsMonomial u.symbols → AllByRecursion IsMonomial (monomials vs) → products_with (term_product t u) vs ≡ products_with t (products_with u vs)
+with_with : (t u : PlainTerm) (vs : List PlainTerm) → IsMonomial t.symbols → IsMonomial u.symbols →
+    AllByRecursion IsMonomial (monomials vs) →
+    products_with (term_product t u) vs ≡ products_with t (products_with u vs)
 with_with t u [] ht hu hv = refl
 with_with t u (v ∷ vs) ht hu hv =
     ap (λ (x : PlainTerm). x ∷ products_with (term_product t u) vs) (term_product-associative t u v ht hu hv.0)
     ∙ ap (λ (xs : List PlainTerm). term_product t (term_product u v) ∷ xs) (with_with t u vs ht hu hv.1)
 
-with_products : (t : PlainTerm) (us vs : List PlainTerm) → IsMonomial t.symbols → AllByRecursion IsMonomial (monomials us) → AllByRecursion IsMonomial (monomials vs) → products (products_with t us) vs ≡ products_with t (products us vs)
+with_products : (t : PlainTerm) (us vs : List PlainTerm) → IsMonomial t.symbols →
+    AllByRecursion IsMonomial (monomials us) → AllByRecursion IsMonomial (monomials vs) →
+    products (products_with t us) vs ≡ products_with t (products us vs)
 with_products t [] vs ht hu hv = refl
 with_products t (u ∷ us) vs ht hu hv =
     ap (λ (xs : List PlainTerm). xs ++ products (products_with t us) vs) (with_with t u vs ht hu.0 hv)
     ∙ ap (λ (xs : List PlainTerm). products_with t (products_with u vs) ++ xs) (with_products t us vs ht hu.1 hv)
     ∙ sym (products_with-append t (products_with u vs) (products us vs))
 
-pub products-associative : (ts us vs : List PlainTerm) → AllByRecursion IsMonomial (monomials ts) → AllByRecursion IsMonomial (monomials us) → AllByRecursion IsMonomial (monomials vs) → products (products ts us) vs ≡ products ts (products us vs)
+pub products-associative : (ts us vs : List PlainTerm) → AllByRecursion IsMonomial (monomials ts) →
+    AllByRecursion IsMonomial (monomials us) → AllByRecursion IsMonomial (monomials vs) →
+    products (products ts us) vs ≡ products ts (products us vs)
 products-associative [] us vs ht hu hv = refl
 products-associative (t ∷ ts) us vs ht hu hv =
     products-append (products_with t us) (products ts us) vs
@@ -86,7 +98,8 @@ next_to : (a b c d x y z : ℤ) → x ≡ a +ℤ b +ℤ z → z ≡ c +ℤ d →
 next_to a b c d x y z h k l = omega (arith, ints, h, k, l)
 
 -- one more term in the second factor
-products-column : (m : List PlainSymbol) (ts : List PlainTerm) (u : PlainTerm) (us : List PlainTerm) → AllByRecursion IsMonomial (monomials ts) → IsMonomial u.symbols →
+products-column : (m : List PlainSymbol) (ts : List PlainTerm) (u : PlainTerm) (us : List PlainTerm) →
+    AllByRecursion IsMonomial (monomials ts) → IsMonomial u.symbols →
     coefficient_of m (products ts (u ∷ us)) ≡ coefficient_of m (products_with u ts) +ℤ coefficient_of m (products ts us)
 products-column m [] u us ht hu = refl
 products-column m (t ∷ ts) u us ht hu =
@@ -97,7 +110,9 @@ products-column m (t ∷ ts) u us ht hu =
     (products-column m ts u us ht.1 hu)
     (coefficient_of-append m (products_with t us) (products ts us))
 
-pub products-commutative : (ts us : List PlainTerm) → AllByRecursion IsMonomial (monomials ts) → AllByRecursion IsMonomial (monomials us) → HaveSameCoefficients (products ts us) (products us ts)
+pub products-commutative : (ts us : List PlainTerm) → AllByRecursion IsMonomial (monomials ts) →
+    AllByRecursion IsMonomial (monomials us) →
+    HaveSameCoefficients (products ts us) (products us ts)
 products-commutative ts [] ht hu = λ m. ap (coefficient_of m) (products-none ts)
 products-commutative ts (u ∷ us) ht hu = λ m.
     products-column m ts u us ht hu.0

@@ -11,7 +11,8 @@ use Rattle.symbol_polys.specs.View.{symbol_of}
 use Rattle.symbol_polys.specs.declared.symbols.Symbol.{Symbol}
 use Rattle.symbol_polys.proofs.Powers.{run, powers_run}
 
-pub left_at : (xs : List Symbol) (i : ℕ) (x : Symbol) → i < length xs → x ≡ get_or xs i x → map symbol_of (drop i xs) ≡ symbol_of x ∷ map symbol_of (drop (i + 1) xs)
+pub left_at : (xs : List Symbol) (i : ℕ) (x : Symbol) → i < length xs → x ≡ get_or xs i x →
+    map symbol_of (drop i xs) ≡ symbol_of x ∷ map symbol_of (drop (i + 1) xs)
 left_at xs i x h at = let first : drop i xs ≡ x ∷ drop (i + 1) xs = grind (arith, common_steps) in rw first refl
 
 drop_further : (n i : ℕ) (xs : List Symbol) → drop (i + (1 + n)) xs ≡ drop n (drop (i + 1) xs)
@@ -34,7 +35,8 @@ next true f fs = refl
 next false f fs = refl
 
 -- one more power
-pub power_put : (text : Power → List ℕ) (first : Bool) (s : PlainSymbol) (m : List PlainSymbol) (o o1 o2 w : List ℕ) → o1 ≡ o ++ (if first then [] else 42 ∷ []) →
+pub power_put : (text : Power → List ℕ) (first : Bool) (s : PlainSymbol) (m : List PlainSymbol) (o o1 o2 w : List ℕ) →
+    o1 ≡ o ++ (if first then [] else 42 ∷ []) →
     o2 ≡ o1 ++ text record { symbol = s; exponent = 1 + run s m } → o ++ remaining first (map text (powers (s ∷ m))) ≡ w → o2 ++ starred (map text (powers (drop (run s m) m))) ≡ w
 power_put text first s m o o1 o2 w h1 h2 e =
     let f = text record { symbol = s; exponent = 1 + run s m } in

@@ -68,7 +68,10 @@ module _ (ty : Types) (ps : List (List ℕ)) (types : AreTypes ty) (parameters :
       let w : body_text ty ps t ++ signed_texts ty ps ts ≡ 48 ∷ [] = rw n at e in
       body_not_zero t h (alone t (signed_texts ty ps ts) (factored ty ps types parameters (unsigned_abs t.coefficient) t.symbols h.symbols).begins w)
 
-  terms_by : (ts : List PlainTerm) → AllByRecursion IsMonomial (monomials ts) → AllByRecursion (λ t. 0 < unsigned_abs t.coefficient) ts → AllByRecursion (λ t. AllByRecursion (IsSymbolOf ty ps) t.symbols) ts → AllByRecursion (IsTermOf ty ps) ts
+  terms_by : (ts : List PlainTerm) → AllByRecursion IsMonomial (monomials ts) →
+      AllByRecursion (λ t. 0 < unsigned_abs t.coefficient) ts →
+      AllByRecursion (λ t. AllByRecursion (IsSymbolOf ty ps) t.symbols) ts →
+      AllByRecursion (IsTermOf ty ps) ts
   terms_by [] m n s = tt
   terms_by (t ∷ ts) m n s = (record { above = n.0; symbols = s.0; ascending = m.0.ascending }, terms_by ts m.1 n.1 s.1)
 
@@ -87,7 +90,8 @@ module _ (ty : Types) (ps : List (List ℕ)) (types : AreTypes ty) (parameters :
   all_bounded [] h = tt
   all_bounded (s ∷ m) h = (h.0.bounded, all_bounded m h.1)
 
-  pub trees_are : (ws : List WrittenTerm) → AllByRecursion (IsWritten ty ps) ws → AllByRecursion (λ w. AllByRecursion HasBoundedTree (map symbol_of w.symbols)) ws
+  pub trees_are : (ws : List WrittenTerm) → AllByRecursion (IsWritten ty ps) ws →
+      AllByRecursion (λ w. AllByRecursion HasBoundedTree (map symbol_of w.symbols)) ws
   trees_are [] h = tt
   trees_are (w ∷ ws) h = (all_bounded (map symbol_of w.symbols) h.0.symbols, trees_are ws h.1)
 
@@ -103,12 +107,15 @@ module _ (ty : Types) (ps : List (List ℕ)) (types : AreTypes ty) (parameters :
   above_is [] h = tt
   above_is (w ∷ ws) h = (omega (arith, size_signed w.is_negative (digits_value 10 w.digits.now), numeral_above w.digits.now h.0.digits), above_is ws h.1)
 
-  symbols_is : (ws : List WrittenTerm) → AllByRecursion (IsWritten ty ps) ws → AllByRecursion (λ t. AllByRecursion (IsSymbolOf ty ps) t.symbols) (map written_of ws)
+  symbols_is : (ws : List WrittenTerm) → AllByRecursion (IsWritten ty ps) ws →
+      AllByRecursion (λ t. AllByRecursion (IsSymbolOf ty ps) t.symbols) (map written_of ws)
   symbols_is [] h = tt
   symbols_is (w ∷ ws) h = (h.0.symbols, symbols_is ws h.1)
 
   -- written terms that ascend, and whose text this is
-  pub text_is : (text : List ℕ) (ws : List WrittenTerm) → AllByRecursion (IsWritten ty ps) ws → neighbours precedes (monomials (map written_of ws)) ≡ true → poly_text ty ps (map written_of ws) ≡ text → IsTextOf ty ps text (map written_of ws)
+  pub text_is : (text : List ℕ) (ws : List WrittenTerm) → AllByRecursion (IsWritten ty ps) ws →
+      neighbours precedes (monomials (map written_of ws)) ≡ true →
+      poly_text ty ps (map written_of ws) ≡ text → IsTextOf ty ps text (map written_of ws)
   text_is text ws h n e = record {
     polynomial = record {
       each = each_is ws h;
@@ -136,10 +143,13 @@ module _ (ty : Types) (ps : List (List ℕ)) (types : AreTypes ty) (parameters :
     not_text n ts h = n (ap (poly_text ty ps) (written_is ts h) ∙ h.printed)
 
   -- where no terms are read of a text
-  pub none_read : (text : List ℕ) (e f : PolyError) → (text ≡ 48 ∷ [] → ⊥) → ((ts : List PlainTerm) → AllByRecursion (IsTermOf ty ps) ts → 0 < length ts → poly_text ty ps ts ≡ text → e ≡ Memory) → (e ≡ Memory → f ≡ Memory) → (ts : List PlainTerm) → IsTextOf ty ps text ts → f ≡ Memory
+  pub none_read : (text : List ℕ) (e f : PolyError) → (text ≡ 48 ∷ [] → ⊥) →
+      ((ts : List PlainTerm) → AllByRecursion (IsTermOf ty ps) ts → 0 < length ts → poly_text ty ps ts ≡ text → e ≡ Memory) →
+      (e ≡ Memory → f ≡ Memory) → (ts : List PlainTerm) → IsTextOf ty ps text ts → f ≡ Memory
   none_read text e f other back m ts h = m (back ts (terms_are text ts h) (some_for_others text ts other h) h.printed)
 
-  pub fault_refused : (text : List ℕ) (f : PolyError) → (f ≡ Memory) ⊎ (f ≡ PolyText) → ((ts : List PlainTerm) → IsTextOf ty ps text ts → f ≡ Memory) → IsTextRefused ty ps text f
+  pub fault_refused : (text : List ℕ) (f : PolyError) → (f ≡ Memory) ⊎ (f ≡ PolyText) →
+      ((ts : List PlainTerm) → IsTextOf ty ps text ts → f ≡ Memory) → IsTextRefused ty ps text f
   fault_refused text CoefficientTooLarge (inl c) h = absurd cc
   fault_refused text CoefficientTooLarge (inr c) h = absurd cc
   fault_refused text PolyText c h = λ ts is. let w : PolyText ≡ Memory = h ts is in absurd cc
@@ -150,25 +160,35 @@ module _ (ty : Types) (ps : List (List ℕ)) (types : AreTypes ty) (parameters :
   fault_read PolyText ts h = absurd cc
   fault_read Memory ts h = record {}
 
-  pub zero_read : (text : List ℕ) (r : Result Poly PolyError) (ts : List PlainTerm) → text ≡ 48 ∷ [] → IsTextOf ty ps text ts → IfOk r (λ p. terms_of p.terms ≡ []) → IsOkUnless r Memory → IsReadAs r ts
+  pub zero_read : (text : List ℕ) (r : Result Poly PolyError) (ts : List PlainTerm) →
+      text ≡ 48 ∷ [] → IsTextOf ty ps text ts → IfOk r (λ p. terms_of p.terms ≡ []) →
+      IsOkUnless r Memory → IsReadAs r ts
   zero_read text (Ok p) ts e h t m = t ∙ none_for_zero text ts e h
   zero_read text (Err x) ts e h t m = fault_read x ts m
 
-  pub poly_text_of : (text : List ℕ) (us : List PlainTerm) (r : Result Poly PolyError) → IsTextOf ty ps text us → IfOk r (λ p. terms_of p.terms ≡ us) → IfOk r (λ p. IsTextOf ty ps text (terms_of p.terms))
+  pub poly_text_of : (text : List ℕ) (us : List PlainTerm) (r : Result Poly PolyError) →
+      IsTextOf ty ps text us → IfOk r (λ p. terms_of p.terms ≡ us) →
+      IfOk r (λ p. IsTextOf ty ps text (terms_of p.terms))
   poly_text_of text us (Ok p) h e = subst (IsTextOf ty ps text) (sym e) h
   poly_text_of text us (Err x) h e = e
 
-  pub is_poly : (text : List ℕ) (us : List PlainTerm) (r : Result Poly PolyError) → IsTextOf ty ps text us → IfOk r (λ p. terms_of p.terms ≡ us) → IfOk r (λ p. p.mass ≡ pos (size_of us)) → IfOk r IsPoly
+  pub is_poly : (text : List ℕ) (us : List PlainTerm) (r : Result Poly PolyError) →
+      IsTextOf ty ps text us → IfOk r (λ p. terms_of p.terms ≡ us) →
+      IfOk r (λ p. p.mass ≡ pos (size_of us)) → IfOk r IsPoly
   is_poly text us (Ok p) h e m = rw (m, e) h.polynomial
   is_poly text us (Err x) h e m = e
 
-  pub refused_by : (text : List ℕ) (us : List PlainTerm) (r : Result Poly PolyError) → IsTextOf ty ps text us → IfErr r (IsRefused (overflow ≤ size_of us)) → IfErr r (IsTextRefused ty ps text)
+  pub refused_by : (text : List ℕ) (us : List PlainTerm) (r : Result Poly PolyError) →
+      IsTextOf ty ps text us → IfErr r (IsRefused (overflow ≤ size_of us)) →
+      IfErr r (IsTextRefused ty ps text)
   refused_by text us (Ok p) h e = e
   refused_by text us (Err CoefficientTooLarge) h e = (us, h, e)
   refused_by text us (Err PolyText) h e = absurd e
   refused_by text us (Err Memory) h e = e
 
-  pub read_as : (us ts : List PlainTerm) (r : Result Poly PolyError) → us ≡ ts → IfOk r (λ p. terms_of p.terms ≡ us) → IfErr r (IsRefused (overflow ≤ size_of us)) → IsReadAs r ts
+  pub read_as : (us ts : List PlainTerm) (r : Result Poly PolyError) → us ≡ ts →
+      IfOk r (λ p. terms_of p.terms ≡ us) → IfErr r (IsRefused (overflow ≤ size_of us)) →
+      IsReadAs r ts
   read_as us ts (Ok p) e t h = t ∙ e
   read_as us ts (Err CoefficientTooLarge) e t h = subst (λ x. overflow ≤ size_of x) e h
   read_as us ts (Err PolyText) e t h = h

@@ -63,7 +63,9 @@ module _ (ty : Types) (ps : List (List ℕ)) (types : AreTypes ty) (parameters :
   split_first : (f : List ℕ) → Begins is_name_byte f → split_sign f ≡ (false, f)
   split_first f h = ap split_sign h.is ∙ split_body h.byte h.behind h.passes ∙ ap (λ (x : List ℕ). (false, x)) (sym h.is)
 
-  terms_by : (t : PlainTerm) (ts : List PlainTerm) (b : Bool) → is_negative t.coefficient ≡ b → AllByRecursion (IsTermOf ty ps) (t ∷ ts) → map split_sign (behind_empty (pieces (43 ∷ 45 ∷ []) (poly_text ty ps (t ∷ ts)))) ≡ map (sign_and_body ty ps) (t ∷ ts)
+  terms_by : (t : PlainTerm) (ts : List PlainTerm) (b : Bool) → is_negative t.coefficient ≡ b →
+      AllByRecursion (IsTermOf ty ps) (t ∷ ts) →
+      map split_sign (behind_empty (pieces (43 ∷ 45 ∷ []) (poly_text ty ps (t ∷ ts)))) ≡ map (sign_and_body ty ps) (t ∷ ts)
   terms_by t ts true e h =
       let body = body_text ty ps t in
       let xs = map pair ts in
@@ -78,11 +80,15 @@ module _ (ty : Types) (ps : List (List ℕ)) (types : AreTypes ty) (parameters :
       ap (λ (x : List ℕ). pieces (43 ∷ 45 ∷ []) (body ++ x)) (signed_onward ts) ∙ pieces_first (43 ∷ 45 ∷ []) body xs f.uncut (pairs_marked ts h.1) in
       rw e (rw text (ap (map split_sign) (kept body (map marked xs) f.begins) ∙ ap (λ (x : Bool × List ℕ). x ∷ map split_sign (map marked xs)) (split_first body f.begins) ∙ ap (λ (ys : List (Bool × List ℕ)). (false, body) ∷ ys) (pairs_split ts)))
 
-  pub terms_back : (t : PlainTerm) (ts : List PlainTerm) → AllByRecursion (IsTermOf ty ps) (t ∷ ts) → map split_sign (behind_empty (pieces (43 ∷ 45 ∷ []) (poly_text ty ps (t ∷ ts)))) ≡ map (sign_and_body ty ps) (t ∷ ts)
+  pub terms_back : (t : PlainTerm) (ts : List PlainTerm) →
+      AllByRecursion (IsTermOf ty ps) (t ∷ ts) →
+      map split_sign (behind_empty (pieces (43 ∷ 45 ∷ []) (poly_text ty ps (t ∷ ts)))) ≡ map (sign_and_body ty ps) (t ∷ ts)
   terms_back t ts h = terms_by t ts (is_negative t.coefficient) refl h
 
   -- the pieces of a text, and the terms that they write
-  pub text_writes : (text : List ℕ) (items : List (Bor (List ℕ))) (ts : List PlainTerm) → AllByRecursion (IsTermOf ty ps) ts → 0 < length ts → poly_text ty ps ts ≡ text → map (λ p. p.now) items ≡ behind_empty (pieces (43 ∷ 45 ∷ []) text) →
+  pub text_writes : (text : List ℕ) (items : List (Bor (List ℕ))) (ts : List PlainTerm) →
+      AllByRecursion (IsTermOf ty ps) ts → 0 < length ts → poly_text ty ps ts ≡ text →
+      map (λ p. p.now) items ≡ behind_empty (pieces (43 ∷ 45 ∷ []) text) →
       Writes (IsTermOf ty ps) (λ p. split_sign p.now) (sign_and_body ty ps) items ts
   text_writes text items [] h some e p = absurd (omega arith)
   text_writes text items (t ∷ ts) h some e p = record {

@@ -61,12 +61,14 @@ pub monomial_order_self : (m : List PlainSymbol) → monomial_order m m ≡ Equa
 monomial_order_self m = own_equal (monomial_order m m) (monomial_order_total.antisymm m m)
 
 -- the trees at each place of a monomial are within the bounds
-pub bounded_at : (m : List Symbol) (i : ℕ) (s : Symbol) → i < length m → s ≡ get_or m i s → AllByRecursion HasBoundedTree (map symbol_of m) → HasBoundedTree (symbol_of s)
+pub bounded_at : (m : List Symbol) (i : ℕ) (s : Symbol) → i < length m → s ≡ get_or m i s →
+    AllByRecursion HasBoundedTree (map symbol_of m) → HasBoundedTree (symbol_of s)
 bounded_at [] i s h e a = absurd (omega arith)
 bounded_at (t ∷ m) zero s h e a = rw e a.0
 bounded_at (t ∷ m) (suc i) s h e a = bounded_at m i s (omega arith) e a.1
 
-pub small_at : (m : List Symbol) (i : ℕ) (s : Symbol) → i < length m → s ≡ get_or m i s → AllByRecursion HasBoundedTree (map symbol_of m) → edge_count_of (tree_in (symbol_of s)) ≤ 24
+pub small_at : (m : List Symbol) (i : ℕ) (s : Symbol) → i < length m → s ≡ get_or m i s →
+    AllByRecursion HasBoundedTree (map symbol_of m) → edge_count_of (tree_in (symbol_of s)) ≤ 24
 small_at m i s h e a = (bounded_at m i s h e a).1.edges
 
 pub bounded_behind : (m : List Symbol) (i : ℕ) → AllByRecursion HasBoundedTree (map symbol_of m) → AllByRecursion HasBoundedTree (map symbol_of (drop i m))

@@ -70,7 +70,8 @@ no_parameter ps n h =
     rw (missing_at ps n h, above) refl
 
 -- the entry of a type
-entry_at : (es : List TypeEntry) (k : ℕ) (e : TypeEntry) → slice_get es k ≡ Some e → (k < length (map (λ f. f.name) es)) × (unwrap_or (slice_get (map (λ f. f.name) es) k) [] ≡ e.name)
+entry_at : (es : List TypeEntry) (k : ℕ) (e : TypeEntry) → slice_get es k ≡ Some e →
+    (k < length (map (λ f. f.name) es)) × (unwrap_or (slice_get (map (λ f. f.name) es) k) [] ≡ e.name)
 entry_at [] k e h = absurd cc
 entry_at (x ∷ es) zero e h = (omega arith, let w : x ≡ e = cc in ap (λ (f : TypeEntry). f.name) w)
 entry_at (x ∷ es) (suc k) e h = let more = entry_at es k e h in (omega (arith, more.0), more.1)
@@ -80,7 +81,8 @@ pub record IsTypeAt (ty : Types) (ps : List (List ℕ)) (k : ℕ) (kind : Kind) 
   pub no_parameter : parameter_number ps (name_of ty k) ≡ None
   pub found : number_named ty (name_of ty k) ≡ Some k
 
-type_by : (ty : Types) (ps : List (List ℕ)) (k : ℕ) (kind : Kind) (o : Option TypeEntry) → AreParameters ty ps → slice_get ty.list k ≡ o → kind_of ty k ≡ Some kind → IsTypeAt ty ps k kind
+type_by : (ty : Types) (ps : List (List ℕ)) (k : ℕ) (kind : Kind) (o : Option TypeEntry) →
+    AreParameters ty ps → slice_get ty.list k ≡ o → kind_of ty k ≡ Some kind → IsTypeAt ty ps k kind
 type_by ty ps k kind None h e g = let w : None ≡ Some kind = rw e at g in absurd cc
 type_by ty ps k kind (Some x) h e g =
     let ns = map (λ f. f.name) ty.list in

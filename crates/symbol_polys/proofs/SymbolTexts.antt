@@ -56,7 +56,8 @@ some_bytes : (v : List ℕ) → is_name v ≡ true → 0 < length v
 some_bytes [] h = absurd cc
 some_bytes (c ∷ v) h = omega arith
 
--- what is said of a symbol and its text: a tree stands behind the mark of its kind, or its name at the front
+-- what is said of a symbol and its text: a tree stands behind the mark of its kind, or its name at
+-- the front
 abbrev pub Says : Types → List (List ℕ) → List ℕ → PlainSymbol → Type 0
 Says ty ps text (tree t) = (tree_behind 84 text ≡ Some (tree_text ty t)) × IsTreeOf ty 4096 (tree_text ty t) t
 Says ty ps text (expectation t) = (tree_behind 84 text ≡ None) × (tree_behind 69 text ≡ Some (tree_text ty t)) × IsTreeOf ty 4096 (tree_text ty t) t
@@ -74,7 +75,8 @@ module _ (ty : Types) (ps : List (List ℕ)) where
   named_is name rest s h =
       rw (word_of name rest (name_bytes name h.name_is) h.stops, drop-append_seam name rest) h.read
 
-  named : (name rest : List ℕ) (s : PlainSymbol) → IsNamed ty ps name rest s → (tree_behind 84 (name ++ rest) ≡ None) × (tree_behind 69 (name ++ rest) ≡ None) × (named_symbol ty ps (name ++ rest) ≡ Some s)
+  named : (name rest : List ℕ) (s : PlainSymbol) → IsNamed ty ps name rest s →
+      (tree_behind 84 (name ++ rest) ≡ None) × (tree_behind 69 (name ++ rest) ≡ None) × (named_symbol ty ps (name ++ rest) ≡ Some s)
   named name rest s h =
       let bytes = name_bytes name h.name_is in
       let some = some_bytes name h.name_is in
@@ -104,7 +106,8 @@ module _ (ty : Types) (ps : List (List ℕ)) where
       let at = type_at ty ps k Kernel h kind in
       rw (at.no_parameter, at.found, kind, e, within_back ty.dims m index) refl
 
-  variable_named : (k : ℕ) (m : List ℕ) (b : Bool) → is_zero m ≡ b → AreParameters ty ps → 0 < ty.dims → ty.dims ≤ 5 → kind_of ty k ≡ Some Kernel → IsMultiIndex ty.dims m →
+  variable_named : (k : ℕ) (m : List ℕ) (b : Bool) → is_zero m ≡ b → AreParameters ty ps →
+      0 < ty.dims → ty.dims ≤ 5 → kind_of ty k ≡ Some Kernel → IsMultiIndex ty.dims m →
       AllByRecursion (λ x. x < 2 ^ 32) m → IsNamed ty ps (name_of ty k) (if is_zero m then [] else 39 ∷ multi_text ty.dims m) (variable k m)
   variable_named k m true e h some most kind index fits = record {
     name_is = (type_at ty ps k Kernel h kind).name;
@@ -130,10 +133,12 @@ module _ (ty : Types) (ps : List (List ℕ)) where
   says (tree t) h some most of = (refl, record { types = of.over; canonical = of.bounded.0; edges = of.bounded.1.edges; decorations = of.bounded.1.decorations; printed = refl })
   says (expectation t) h some most of = (refl, refl, record { types = of.over; canonical = of.bounded.0; edges = of.bounded.1.edges; decorations = of.bounded.1.decorations; printed = refl })
 
-  pub says_of : (text : List ℕ) (s : PlainSymbol) → AreParameters ty ps → 0 < ty.dims → ty.dims ≤ 5 → IsSymbolOf ty ps s → symbol_text ty ps s ≡ text → Says ty ps text s
+  pub says_of : (text : List ℕ) (s : PlainSymbol) → AreParameters ty ps → 0 < ty.dims →
+      ty.dims ≤ 5 → IsSymbolOf ty ps s → symbol_text ty ps s ≡ text → Says ty ps text s
   says_of text s h some most of e = subst (λ x. Says ty ps x s) e (says s h some most of)
 
-  -- what holds of each symbol with a text: where a tree stands behind `T`, behind `E`, and where none does
+  -- what holds of each symbol with a text: where a tree stands behind `T`, behind `E`, and where
+  -- none does
   module _ (text : List ℕ) (Q : PlainSymbol → Type 0) where
     pub behind_t : (tr : List ℕ) (s : PlainSymbol) → tree_behind 84 text ≡ Some tr → ((t : Plain) → IsTreeOf ty 4096 tr t → Q (tree t)) → Says ty ps text s → Q s
     behind_t tr (tree t) e q h = let w : tree_text ty t ≡ tr = some_is (sym h.0 ∙ e) in q t (subst (λ x. IsTreeOf ty 4096 x t) w h.1)

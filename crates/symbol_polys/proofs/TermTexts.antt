@@ -43,7 +43,8 @@ map-marked : (fs : List (List ℕ)) → map marked (map (λ f. (42, f)) fs) ≡ 
 map-marked [] = refl
 map-marked (f ∷ fs) = ap (λ (x : List (List ℕ)). (42 ∷ f) ∷ x) (map-marked fs)
 
-pieces_joined : (f : List ℕ) (fs : List (List ℕ)) → Passes (42 ∷ []) 0 f 0 → AreClosed (42 ∷ []) fs → pieces (42 ∷ []) (joined (f ∷ fs)) ≡ f ∷ map (λ g. 42 ∷ g) fs
+pieces_joined : (f : List ℕ) (fs : List (List ℕ)) → Passes (42 ∷ []) 0 f 0 →
+    AreClosed (42 ∷ []) fs → pieces (42 ∷ []) (joined (f ∷ fs)) ≡ f ∷ map (λ g. 42 ∷ g) fs
 pieces_joined f fs p h =
     ap (λ (x : List ℕ). pieces (42 ∷ []) (f ++ x)) (starred_onward fs) ∙ pieces_first (42 ∷ []) f (map (λ g. (42, g)) fs) p (stars_marked fs h) ∙ ap (λ (x : List (List ℕ)). f ∷ x) (map-marked fs)
 
@@ -84,7 +85,9 @@ begins-append : (f g : List ℕ) → Begins is_name_byte f → Begins is_name_by
 begins-append f g h = record { byte = h.byte; behind = h.behind ++ g; passes = h.passes; is = ap (λ (x : List ℕ). x ++ g) h.is }
 
 -- the exponents of powers are above 0, and powers of symbols give the monomial back
-power_of : (s : PlainSymbol) (xs : List Power) (b : Bool) → (P : PlainSymbol → Type 0) → P s → AllByRecursion (λ x. (0 < x.exponent) × P x.symbol) xs → AllByRecursion (λ x. (0 < x.exponent) × P x.symbol) (symbol_onto s xs)
+power_of : (s : PlainSymbol) (xs : List Power) (b : Bool) → (P : PlainSymbol → Type 0) → P s →
+    AllByRecursion (λ x. (0 < x.exponent) × P x.symbol) xs →
+    AllByRecursion (λ x. (0 < x.exponent) × P x.symbol) (symbol_onto s xs)
 power_of s [] b P p h = ((omega arith, p), tt)
 power_of s (x ∷ xs) b P p h = with_at s x xs P p h (same s x.symbol) refl
   where
@@ -128,12 +131,15 @@ starred_passes marks [] m h = refl
 starred_passes marks (f ∷ fs) m h = (m, passes-append marks f (starred fs) 0 0 0 h.0 (starred_passes marks fs m h.1))
 
 module _ (ty : Types) (ps : List (List ℕ)) (types : AreTypes ty) (parameters : AreParameters ty ps) where
-  powers_closed : (marks : List ℕ) → AreApart marks → is_mark marks 94 ≡ false → (xs : List Power) → AllByRecursion (IsPowerOf ty ps) xs → AreClosed marks (map (power_text ty ps) xs)
+  powers_closed : (marks : List ℕ) → AreApart marks → is_mark marks 94 ≡ false → (xs : List Power) →
+      AllByRecursion (IsPowerOf ty ps) xs → AreClosed marks (map (power_text ty ps) xs)
   powers_closed marks apart c [] h = tt
   powers_closed marks apart c (x ∷ xs) h = (power_passes marks apart ty ps types parameters x c h.0.1, powers_closed marks apart c xs h.1)
 
   -- the coefficient is written
-  with_number : (n : ℕ) (xs : List Power) → AllByRecursion (IsPowerOf ty ps) xs → (m : List PlainSymbol) → factors ty ps (numeral n) m ≡ numeral n ∷ map (power_text ty ps) xs → powers m ≡ xs → IsFactored ty ps (numeral n) m
+  with_number : (n : ℕ) (xs : List Power) → AllByRecursion (IsPowerOf ty ps) xs →
+      (m : List PlainSymbol) → factors ty ps (numeral n) m ≡ numeral n ∷ map (power_text ty ps) xs →
+      powers m ≡ xs → IsFactored ty ps (numeral n) m
   with_number n xs h m e p =
       let ds = numeral n in
       let fs = map (power_text ty ps) xs in
@@ -149,7 +155,9 @@ module _ (ty : Types) (ps : List (List ℕ)) (types : AreTypes ty) (parameters :
       }
 
   -- it is left out
-  without_number : (ds : List ℕ) (x : Power) (xs : List Power) → ds ≡ 49 ∷ [] → IsPowerOf ty ps x → AllByRecursion (IsPowerOf ty ps) xs → (m : List PlainSymbol) → factors ty ps ds m ≡ map (power_text ty ps) (x ∷ xs) → powers m ≡ x ∷ xs →
+  without_number : (ds : List ℕ) (x : Power) (xs : List Power) → ds ≡ 49 ∷ [] → IsPowerOf ty ps x →
+      AllByRecursion (IsPowerOf ty ps) xs → (m : List PlainSymbol) →
+      factors ty ps ds m ≡ map (power_text ty ps) (x ∷ xs) → powers m ≡ x ∷ xs →
       IsFactored ty ps ds m
   without_number ds x xs one hx h m e p =
       let f = power_text ty ps x in
@@ -166,7 +174,9 @@ module _ (ty : Types) (ps : List (List ℕ)) (types : AreTypes ty) (parameters :
         uncut = rw e (passes-append (43 ∷ 45 ∷ []) f (starred fs) 0 0 0 (power_passes (43 ∷ 45 ∷ []) signs_apart ty ps types parameters x refl hx.1) (starred_passes (43 ∷ 45 ∷ []) fs refl closed));
       }
 
-  factored_by : (n : ℕ) (s : PlainSymbol) (m : List PlainSymbol) (xs : List Power) (b : Bool) → bytes_eq (numeral n) (49 ∷ []) ≡ b → powers (s ∷ m) ≡ xs → AllByRecursion (IsPowerOf ty ps) xs → IsFactored ty ps (numeral n) (s ∷ m)
+  factored_by : (n : ℕ) (s : PlainSymbol) (m : List PlainSymbol) (xs : List Power) (b : Bool) →
+      bytes_eq (numeral n) (49 ∷ []) ≡ b → powers (s ∷ m) ≡ xs →
+      AllByRecursion (IsPowerOf ty ps) xs → IsFactored ty ps (numeral n) (s ∷ m)
   factored_by n s m [] b e p h = let w : record { symbol = s; exponent = 1 + run s m } ∷ powers (drop (run s m) m) ≡ [] = sym (powers_run s m) ∙ p in absurd cc
   factored_by n s m (x ∷ xs) true e p h = without_number (numeral n) x xs ((bytes_eq-Decides (numeral n) (49 ∷ [])).0 e) h.0 h.1 (s ∷ m) (rw (e, p) refl) p
   factored_by n s m (x ∷ xs) false e p h = with_number n (x ∷ xs) h (s ∷ m) (rw (e, p) refl) p

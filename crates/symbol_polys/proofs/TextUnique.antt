@@ -27,7 +27,9 @@ heads e = cc
 tails : {X : Type 0} {x y : X} {xs ys : List X} → x ∷ xs ≡ y ∷ ys → xs ≡ ys
 tails e = cc
 
-map_exact : {X Y : Type 0} (P : X → Type 0) (f : X → Y) → ((x y : X) → P x → P y → f x ≡ f y → x ≡ y) → (xs ys : List X) → AllByRecursion P xs → AllByRecursion P ys → map f xs ≡ map f ys → xs ≡ ys
+map_exact : {X Y : Type 0} (P : X → Type 0) (f : X → Y) →
+    ((x y : X) → P x → P y → f x ≡ f y → x ≡ y) → (xs ys : List X) → AllByRecursion P xs →
+    AllByRecursion P ys → map f xs ≡ map f ys → xs ≡ ys
 map_exact P f exact [] [] h k e = refl
 map_exact P f exact [] (y ∷ ys) h k e = absurd cc
 map_exact P f exact (x ∷ xs) [] h k e = absurd cc

@@ -49,12 +49,16 @@ first_left ws i w l e = drop_more ws i w l ∙ ap (λ (x : WrittenTerm). x ∷ d
 pub size_cons : (w : WrittenTerm) (ws : List WrittenTerm) → size_of (map written_of (w ∷ ws)) ≡ digits_value 10 w.digits.now + size_of (map written_of ws)
 size_cons w ws = ap (λ (n : ℕ). n + size_of (map written_of ws)) (size_signed w.is_negative (digits_value 10 w.digits.now))
 
-pub total_met : (ws : List WrittenTerm) (i sum mag next all : ℕ) (w : WrittenTerm) → i < length ws → w ≡ get_or ws i w → mag ≡ saturated (digits_value 10 w.digits.now) → next ≡ saturated (sum + mag) →
+pub total_met : (ws : List WrittenTerm) (i sum mag next all : ℕ) (w : WrittenTerm) → i < length ws →
+    w ≡ get_or ws i w → mag ≡ saturated (digits_value 10 w.digits.now) →
+    next ≡ saturated (sum + mag) →
     saturated (sum + size_of (map written_of (drop i ws))) ≡ saturated all → saturated (next + size_of (map written_of (drop (i + 1) ws))) ≡ saturated all
 total_met ws i sum mag next all w l e m n h =
     let rest = drop (i + 1) ws in
     let size : size_of (map written_of (drop i ws)) ≡ digits_value 10 w.digits.now + size_of (map written_of rest) = ap (λ (xs : List WrittenTerm). size_of (map written_of xs)) (first_left ws i w l e) ∙ size_cons w rest in
     size_met sum next (digits_value 10 w.digits.now) (size_of (map written_of rest)) all (rw m at n) (rw size at h)
 
-pub numerals_left : (ws : List WrittenTerm) (i : ℕ) (w : WrittenTerm) → i < length ws → w ≡ get_or ws i w → AllByRecursion (λ x. is_numeral x.digits.now ≡ true) (drop i ws) → AllByRecursion (λ x. is_numeral x.digits.now ≡ true) (w ∷ drop (i + 1) ws)
+pub numerals_left : (ws : List WrittenTerm) (i : ℕ) (w : WrittenTerm) → i < length ws →
+    w ≡ get_or ws i w → AllByRecursion (λ x. is_numeral x.digits.now ≡ true) (drop i ws) →
+    AllByRecursion (λ x. is_numeral x.digits.now ≡ true) (w ∷ drop (i + 1) ws)
 numerals_left ws i w l e h = rw (first_left ws i w l e) at h

@@ -1,4 +1,10 @@
 -- Codes of symbols and terms, which store them as the tuples of their parts.
+--   Parts == the rank of a symbol, its number, its multiindex and its tree
+--   symbol_by n i m t == the symbol of rank n that has what it needs of these
+--   parts s == the parts of the symbol s
+--   from_parts p == the symbol with these parts
+--   from_parts-parts == a symbol is that of its parts
+--   symbol_code, term_code == the codes of symbols and of terms
 use Rattle.std.specs.Prelude.{◌≡◌, ℕ, zero, suc, ℤ, List, refl}
 use Rattle.std.specs.Coded.{Coded, code_by, coded×, coded_ℕ, coded_ℤ, coded_list}
 use Rattle.plain_trees.specs.Code.{plain_code}
@@ -30,7 +36,10 @@ from_parts-parts (tree t) = refl
 from_parts-parts (expectation t) = refl
 
 abbrev pub symbol_code : Coded PlainSymbol
-symbol_code = code_by Parts (coded× coded_ℕ (coded× coded_ℕ (coded× (coded_list coded_ℕ) plain_code))) parts from_parts from_parts-parts
+symbol_code =
+    code_by Parts (coded× coded_ℕ (coded× coded_ℕ (coded× (coded_list coded_ℕ) plain_code))) parts
+    from_parts from_parts-parts
 
 abbrev pub term_code : Coded PlainTerm
-term_code = code_by (ℤ × List PlainSymbol) (coded× coded_ℤ (coded_list symbol_code)) (λ t. (t.coefficient, t.symbols)) (λ p. record { coefficient = p.0; symbols = p.1 }) (λ t. refl)
+term_code = code_by (ℤ × List PlainSymbol) (coded× coded_ℤ (coded_list symbol_code))
+    (λ t. (t.coefficient, t.symbols)) (λ p. record { coefficient = p.0; symbols = p.1 }) (λ t. refl)

@@ -1,4 +1,5 @@
 -- Lists whose neighbours pass a test.
+-- Working notions of the code and of proofs, which no contract of a public call names:
 --   neighbours p xs == p holds of each member of xs and the next one
 use Rattle.std.specs.Prelude.{◌&&◌, Bool, true, List, [], ◌∷◌}
 

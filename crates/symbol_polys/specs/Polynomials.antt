@@ -1,14 +1,21 @@
 -- Polynomials as lists of terms with a mass.
+-- What contracts of public calls say:
 --   PlainTerm == a coefficient and the symbols of a monomial
 --   monomials ts == the monomials of the terms
---   coefficient_of m ts == the coefficient of the monomial m: the sum of the coefficients of the terms with m
+--   coefficient_of m ts == the coefficient of the monomial m: the sum of the coefficients of the
+--       terms with m
 --   HaveSameCoefficients ts us == each monomial has one coefficient in both lists
---   term_order t u == the order of the monomials of two terms
 --   size_of ts == the sum of the absolute coefficients
---   IsPolynomial mass ts == the terms ascend, each monomial stands once, no coefficient is 0, and the sum of the absolute coefficients is at most the mass
---   IsSumOf us ts == ts is the sum of the terms us: it ascends, each monomial stands once, with the coefficient that it has in us, no coefficient is 0, and the sum of the absolute coefficients is at most that of us
+--   IsPolynomial mass ts == the terms ascend, each monomial stands once, no coefficient is 0, and
+--       the sum of the absolute coefficients is at most the mass
+--   IsSumOf us ts == ts is the sum of the terms us: it ascends, each monomial stands once, with the
+--       coefficient that it has in us, no coefficient is 0, and the sum of the absolute
+--       coefficients is at most that of us
 --   times z t, times_all z ts == a term, a list of terms, times the number z
---   IsRefused too_large e == why a call on polynomials gives no answer: its mass is too large, or memory is wanted
+--   IsRefused too_large e == why a call on polynomials gives no answer: its mass is too large, or
+--       memory is wanted
+-- Working notions of the code and of proofs:
+--   term_order t u == the order of the monomials of two terms
 use Rattle.std.specs.Prelude.{◌≡◌, ℕ, ◌<◌, ◌≤◌, cond, List, [], ◌∷◌, map, ⊤, ℤ, pos, ◌+ℤ◌, ◌*ℤ◌, ◌≤ℤ◌, unsigned_abs}
 use Rattle.std.specs.List.{AllByRecursion}
 use Rattle.std.specs.List.Sorted.{IsStrictlySortedBy}
@@ -28,7 +35,8 @@ monomials ts = map (λ t. t.symbols) ts
 
 abbrev pub coefficient_of : List PlainSymbol → List PlainTerm → ℤ
 coefficient_of m [] = pos 0
-coefficient_of m (t ∷ ts) = cond (is_eq (monomial_order t.symbols m)) t.coefficient (pos 0) +ℤ coefficient_of m ts
+coefficient_of m (t ∷ ts) =
+    cond (is_eq (monomial_order t.symbols m)) t.coefficient (pos 0) +ℤ coefficient_of m ts
 
 abbrev pub HaveSameCoefficients : List PlainTerm → List PlainTerm → Type 0
 HaveSameCoefficients ts us = (m : List PlainSymbol) → coefficient_of m ts ≡ coefficient_of m us

@@ -1,9 +1,21 @@
 -- The symbol that a text names.
+-- Working notions of the code and of proofs, which no contract of a public call names:
 --   parameter_number ps name == the number of the first parameter with this name
---   entry_at text == the number at the front, where one past 2^32-1 counts as 2^32-1, and what stands behind it and a comma; 0 where there is none
+--   entry_from text n == of the number n that was found at the front of text; 0 where there is none
+--   entry_at text == the number at the front, where one past 2^32-1 counts as 2^32-1, and what
+--       stands behind it and a comma; 0 where there is none
 --   entries_at k text == the next k numbers
---   multi_behind dims text == the multiindex behind `'(`; 0 where that is not there; none where an entry past the number of directions is not 0
---   named_symbol ty ps text == the parameter, the noise or the variable whose name stands at the front
+--   entries_behind text == the five entries behind `'(`; those of 0 where that is not there
+--   within dims m == m, where its entries past the number of directions are 0
+--   multi_behind dims text == the multiindex behind `'(`; 0 where that is not there; none where an
+--       entry past the number of directions is not 0
+--   variable_of k m == the derivative by m of the unknown of kernel k, where m is there
+--   of_kind kind k m == the noise k, or such a derivative, by the kind of type k
+--   of_type ty k text == the symbol of type k, where there is one, with the multiindex at the front
+--       of text
+--   of_parameter i other == the parameter i, where there is one, else the other symbol
+--   named_symbol ty ps text == the parameter, the noise or the variable whose name stands at the
+--       front
 --   tree_behind mark text == what stands behind the mark, where a bracket opens there
 use Rattle.std.specs.Prelude.{ℕ, zero, suc, ◌-◌, ◌^◌, ◌==◌, ◌&&◌, if◌then◌else◌, min, List, [], ◌∷◌, length, drop, Option, Some, None}
 use Rattle.std.specs.List.{position}
@@ -33,7 +45,8 @@ entries_at zero text = []
 entries_at (suc k) text = (entry_at text).0 ∷ entries_at k (entry_at text).1
 
 abbrev pub entries_behind : List ℕ → List ℕ
-entries_behind (q ∷ b ∷ text) = if q == 39 && b == 40 then entries_at 5 text else 0 ∷ 0 ∷ 0 ∷ 0 ∷ 0 ∷ []
+entries_behind (q ∷ b ∷ text) =
+    if q == 39 && b == 40 then entries_at 5 text else 0 ∷ 0 ∷ 0 ∷ 0 ∷ 0 ∷ []
 entries_behind text = 0 ∷ 0 ∷ 0 ∷ 0 ∷ 0 ∷ []
 
 abbrev pub within : ℕ → List ℕ → Option (List ℕ)
@@ -60,7 +73,8 @@ of_parameter None other = other
 of_parameter (Some i) other = Some (parameter i)
 
 abbrev pub named_symbol : Types → List (List ℕ) → List ℕ → Option PlainSymbol
-named_symbol ty ps text = of_parameter (parameter_number ps (word text)) (of_type ty (number_named ty (word text)) (drop (length (word text)) text))
+named_symbol ty ps text = of_parameter (parameter_number ps (word text))
+    (of_type ty (number_named ty (word text)) (drop (length (word text)) text))
 
 abbrev pub tree_behind : ℕ → List ℕ → Option (List ℕ)
 tree_behind mark (c ∷ b ∷ text) = if c == mark && b == 91 then Some (b ∷ text) else None

@@ -1,10 +1,17 @@
 -- Symbols and monomials as plain data, and their order.
---   parameter i, variable k m, noise k, tree t, expectation t == a parameter by its number; the derivative, by the multiindex m, of the unknown of the kernel k; a noise; a tree; the expectation of a tree
+--   PlainSymbol == a symbol, one of these
+--   parameter i, variable k m, noise k, tree t, expectation t == a parameter by its number; the
+--       derivative, by the multiindex m, of the unknown of the kernel k; a noise; a tree; the
+--       expectation of a tree
 --   rank s == the place of its variant in this list
---   number_in s, multiindex_in s, tree_in s == its number, multiindex and tree; 0, no entries and one bare node where it has none
---   symbol_order s t == the order of symbols: by variant, then number, then multiindex, then tree order
---   monomial_order m n == the order of monomials, as lists of symbols: by the number of symbols, then lexicographically
---   HasBoundedTree s == its tree is canonical, has at most 24 edges and a decoration sum of at most 4,096
+--   number_in s, multiindex_in s, tree_in s == its number, multiindex and tree; 0, no entries and
+--       one bare node where it has none
+--   symbol_order s t == the order of symbols: by variant, then number, then multiindex, then tree
+--       order
+--   monomial_order m n == the order of monomials, as lists of symbols: by the number of symbols,
+--       then lexicographically
+--   HasBoundedTree s == its tree is canonical, has at most 24 edges (`MOST_EDGES`) and a decoration
+--       sum of at most 4,096 (`MOST_DECORATIONS`)
 --   IsMonomial m == a monomial: its symbols ascend, and their trees are canonical and bounded
 use Rattle.std.specs.Prelude.{ℕ, List, [], length}
 use Rattle.std.specs.List.{AllByRecursion}
@@ -51,7 +58,8 @@ tree_in (tree t) = t
 tree_in (expectation t) = t
 
 abbrev pub symbol_order : PlainSymbol → PlainSymbol → Ordering
-symbol_order = then_cmp (on rank nat_cmp) (then_cmp (on number_in nat_cmp) (then_cmp (on multiindex_in (slice_cmp nat_cmp)) (on tree_in tree_order)))
+symbol_order = then_cmp (on rank nat_cmp) (then_cmp (on number_in nat_cmp)
+    (then_cmp (on multiindex_in (slice_cmp nat_cmp)) (on tree_in tree_order)))
 
 abbrev pub monomial_order : List PlainSymbol → List PlainSymbol → Ordering
 monomial_order = then_cmp (on length nat_cmp) (slice_cmp symbol_order)

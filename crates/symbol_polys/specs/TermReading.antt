@@ -1,15 +1,21 @@
 -- Terms as they are read.
+-- Working notions of the code and of proofs, which no contract of a public call names:
+--   split_parts parts == of the pieces of a power: the text of the symbol and the exponent, 1 where
+--       it is alone
 --   split_power text == the text of the symbol and the exponent of a power
---   IsPowerOf ty ps x == a power of a symbol over the types and the parameters, its exponent above 0
+--   IsPowerOf ty ps x == a power of a symbol over the types and the parameters, its exponent above
+--       0
 --   expanded xs == the monomial of the powers xs
 --   IsTermOf ty ps t == a term of such symbols, in order, its coefficient not 0
 --   split_sign text == whether `-` stands at the front, and what stands behind the sign
 --   behind_empty ps == the pieces ps without the first one, where that is empty
+--   begins_with_digit text == text begins with a digit
 --   coefficient_digits fs == the first of the factors fs, where it begins with a digit, else `1`
 --   power_factors fs == the other factors
 --   signed is_negative n == the number with this sign and this absolute value
 --   written_of w == the term that is written
---   IsWritten ty ps w == its digits are those of a number above 0, and its symbols are such symbols, in order
+--   IsWritten ty ps w == its digits are those of a number above 0, and its symbols are such
+--       symbols, in order
 use Rattle.std.specs.Prelude.{◌≡◌, ℕ, ◌<◌, ◌==◌, Bool, true, false, if◌then◌else◌, List, [], ◌∷◌, map, Option, Some, None, ℤ, pos, neg_ℤ, unsigned_abs, replicate}
 use Rattle.std.specs.Char.{is_ascii_digit}
 use Rattle.std.specs.List.{flat_map, AllByRecursion}
@@ -28,7 +34,8 @@ use Rattle.symbol_polys.specs.declared.written.WrittenTerm.{WrittenTerm}
 abbrev pub split_parts : List (List ℕ) → Option (List ℕ × ℕ)
 split_parts [] = None
 split_parts (base ∷ []) = Some (base, 1)
-split_parts (base ∷ exponent ∷ []) = if is_numeral (unmarked 94 exponent) then Some (base, digits_value 10 (unmarked 94 exponent)) else None
+split_parts (base ∷ exponent ∷ []) = if is_numeral (unmarked 94 exponent) then
+    Some (base, digits_value 10 (unmarked 94 exponent)) else None
 split_parts (base ∷ exponent ∷ part ∷ parts) = None
 
 abbrev pub split_power : List ℕ → Option (List ℕ × ℕ)
@@ -47,7 +54,8 @@ pub record IsTermOf (ty : Types) (ps : List (List ℕ)) (t : PlainTerm) : Type 0
 
 abbrev pub split_sign : List ℕ → Bool × List ℕ
 split_sign [] = (false, [])
-split_sign (c ∷ cs) = if c == 45 then (true, cs) else if c == 43 then (false, cs) else (false, c ∷ cs)
+split_sign (c ∷ cs) =
+    if c == 45 then (true, cs) else if c == 43 then (false, cs) else (false, c ∷ cs)
 
 abbrev pub behind_empty : List (List ℕ) → List (List ℕ)
 behind_empty [] = []
@@ -71,7 +79,10 @@ signed true n = neg_ℤ (pos n)
 signed false n = pos n
 
 abbrev pub written_of : WrittenTerm → PlainTerm
-written_of w = record { coefficient = signed w.is_negative (digits_value 10 w.digits.now); symbols = map symbol_of w.symbols }
+written_of w = record {
+  coefficient = signed w.is_negative (digits_value 10 w.digits.now);
+  symbols = map symbol_of w.symbols;
+}
 
 pub record IsWritten (ty : Types) (ps : List (List ℕ)) (w : WrittenTerm) : Type 0 where
   pub digits : is_numeral w.digits.now ≡ true

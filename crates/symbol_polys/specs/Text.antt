@@ -1,14 +1,30 @@
 -- Texts of polynomials.
---   AreParameters ty ps == ps are the names of the parameters of some file with the types ty: at most 8, all different and different from those of the types
---   IsOver ty ps s == s is a symbol over the types ty and the parameters ps: its number is that of a parameter, a kernel or a noise, its multiindex is one, and its tree is one over the types
---   IsTermOver ty ps t == so are the symbols of the term t, and their trees are canonical and bounded
---   symbol_text ty ps s == the name of a parameter or of a noise; of a variable the name of its kernel, with `'` and its multiindex where that is not 0;
---                          `T` and the text of a tree; `E` and that of the tree of an expectation
---   powers m == the monomial m as powers of symbols: neighbours that are equal stand for one symbol with their number as exponent
+-- What contracts of public calls say:
+--   AreParameters ty ps == ps are the names of the parameters of some file with the types ty: at
+--       most 8, all different and different from those of the types
+--   IsOver ty ps s == s is a symbol over the types ty and the parameters ps: its number is that of
+--       a parameter, a kernel or a noise, its multiindex is one, and its tree is one over the types
+--   IsTermOver ty ps t == so are the symbols of the term t, and their trees are canonical and
+--       bounded
+--   parameter_name ps i == the name of parameter i
+--   symbol_text ty ps s == the name of a parameter or of a noise; of a variable the name of its
+--       kernel, with `'` and its multiindex where that is not 0; `T` and the text of a tree; `E`
+--       and that of the tree of an expectation
+--   Power == a symbol and its exponent
+--   symbol_onto s xs == the powers xs with one more symbol s in front
+--   powers m == the monomial m as powers of symbols: neighbours that are equal stand for one symbol
+--       with their number as exponent
 --   power_text ty ps x == the symbol, and `^` and the exponent where that is above 1
---   factors ty ps ds m == the texts of the factors of a number, with the digits ds, times the monomial m: first the digits, where they are not `1` or m is empty, then the powers
+--   coefficient_factors ds m == the digits ds, where they are not `1` or the monomial m is empty
+--   factors ty ps ds m == the texts of the factors of a number, with the digits ds, times the
+--       monomial m: first the digits, as far as they are written, then the powers
 --   body_text ty ps t == the factors of a term without its sign, joined by `*`
+--   is_negative z == z is below 0
+--   signed_texts ty ps ts == the terms, each behind its sign
 --   poly_text ty ps ts == `0`, or the terms, each with its sign; a first sign `+` is left out
+-- Working notions of the code and of proofs:
+--   remaining is_first fs == the factors that are left, joined by `*`, where the first one stands
+--       first; else each after a `*`
 use Rattle.std.specs.Prelude.{◌≡◌, ℕ, ◌+◌, ◌≤◌, ◌<◌, ◌==◌, Bool, true, false, if◌then◌else◌, List, [], ◌∷◌, ◌++◌, length, map, slice_get, unwrap_or, Some, ℤ, pos, negsuc, unsigned_abs}
 use Rattle.std.specs.List.{AllByRecursion}
 use Rattle.std.specs.Ordering.{is_eq}
@@ -55,14 +71,17 @@ pub record Power : Type 0 where
 -- one more symbol in front
 abbrev pub symbol_onto : PlainSymbol → List Power → List Power
 symbol_onto s [] = record { symbol = s; exponent = 1 } ∷ []
-symbol_onto s (x ∷ xs) = if is_eq (symbol_order s x.symbol) then record { symbol = s; exponent = 1 + x.exponent } ∷ xs else record { symbol = s; exponent = 1 } ∷ x ∷ xs
+symbol_onto s (x ∷ xs) = if is_eq (symbol_order s x.symbol) then
+    record { symbol = s; exponent = 1 + x.exponent } ∷ xs else record { symbol = s; exponent = 1 }
+    ∷ x ∷ xs
 
 abbrev pub powers : List PlainSymbol → List Power
 powers [] = []
 powers (s ∷ m) = symbol_onto s (powers m)
 
 abbrev pub power_text : Types → List (List ℕ) → Power → List ℕ
-power_text ty ps x = symbol_text ty ps x.symbol ++ (if x.exponent == 1 then [] else 94 ∷ numeral x.exponent)
+power_text ty ps x = symbol_text ty ps x.symbol
+    ++ (if x.exponent == 1 then [] else 94 ∷ numeral x.exponent)
 
 abbrev pub coefficient_factors : List ℕ → List PlainSymbol → List (List ℕ)
 coefficient_factors ds [] = ds ∷ []
@@ -85,8 +104,10 @@ is_negative (negsuc n) = true
 
 abbrev pub signed_texts : Types → List (List ℕ) → List PlainTerm → List ℕ
 signed_texts ty ps [] = []
-signed_texts ty ps (t ∷ ts) = (if is_negative t.coefficient then 45 else 43) ∷ (body_text ty ps t ++ signed_texts ty ps ts)
+signed_texts ty ps (t ∷ ts) =
+    (if is_negative t.coefficient then 45 else 43) ∷ (body_text ty ps t ++ signed_texts ty ps ts)
 
 abbrev pub poly_text : Types → List (List ℕ) → List PlainTerm → List ℕ
 poly_text ty ps [] = 48 ∷ []
-poly_text ty ps (t ∷ ts) = (if is_negative t.coefficient then 45 ∷ [] else []) ++ (body_text ty ps t ++ signed_texts ty ps ts)
+poly_text ty ps (t ∷ ts) = (if is_negative t.coefficient then 45 ∷ [] else [])
+    ++ (body_text ty ps t ++ signed_texts ty ps ts)

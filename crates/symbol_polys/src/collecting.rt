@@ -66,7 +66,8 @@ pub(crate) fn put(terms: &mut Vec<OrderedTerm>, term: Term) -> Result<(), AllocE
 fn close(terms: &mut Vec<OrderedTerm>, term: Term) -> Result<(), AllocError>
     requires { IsMonomial (map symbol_of term.symbols) }
     ensures zero { OnOk result (term.coefficient ≡ pos 0 → terms.new.items ≡ terms.old.items) }
-    ensures other { OnOk result (term.coefficient ≢ pos 0 → terms.new.items ≡ terms.old.items ++ term_of term ∷ []) }
+    ensures other { OnOk result (term.coefficient ≢ pos 0 →
+        terms.new.items ≡ terms.old.items ++ term_of term ∷ []) }
 {
     if term.coefficient != 0 {
         put(terms, term)?;
@@ -82,7 +83,8 @@ fn add_to(sum: &mut Term, term: &Term)
     sum.coefficient += term.coefficient;
 }
 
-// Joins neighbours with equal monomials, and leaves out what cancels. The first sum that is open is 0 times the monomial 1.
+// Joins neighbours with equal monomials, and leaves out what cancels. The first sum that is open is
+// 0 times the monomial 1.
 fn joined(alloc: Global, sorted: Vec<OrderedTerm>) -> Result<Vec<OrderedTerm>, PolyError>
     requires sorted { IsSorted term_order sorted.items }
     requires size { size_of sorted.items < overflow }
@@ -108,7 +110,8 @@ fn joined(alloc: Global, sorted: Vec<OrderedTerm>) -> Result<Vec<OrderedTerm>, P
     Ok(terms)
 }
 
-/// The sum of many terms. The terms of a polynomial ascend, and so do the products of a term with them: the stable sort merges such runs.
+/// The sum of many terms. The terms of a polynomial ascend, and so do the products of a term with
+/// them: the stable sort merges such runs.
 pub(crate) fn simplified(
     alloc: Global,
     terms: Vec<OrderedTerm>,

@@ -44,7 +44,8 @@ fn power(by: &Symbol, symbols: &[Symbol]) -> usize
 fn without(alloc: Global, by: &Symbol, symbols: &[Symbol]) -> Result<Items<Symbol>, PolyError>
     requires small { edge_count_of (tree_in (symbol_of by.now)) ≤ 24 }
     requires trees { AllByRecursion HasBoundedTree (map symbol_of symbols.now) }
-    ensures value { IfOk result (λ m. map symbol_of m ≡ without (symbol_of by.now) (map symbol_of symbols.now)) }
+    ensures value { IfOk result (λ m. map symbol_of m ≡ without (symbol_of by.now)
+        (map symbol_of symbols.now)) }
     ensures memory { IsOkUnless result PolyError.Memory }
 {
     let mut rest = Items::new(alloc);
@@ -69,7 +70,8 @@ pub(crate) fn absolute_coefficient(term: &Term) -> Saturated
 fn derived_size(by: &Symbol, term: &Term) -> Saturated
     requires small { edge_count_of (tree_in (symbol_of by.now)) ≤ 24 }
     requires trees { AllByRecursion HasBoundedTree (map symbol_of term.now.symbols) }
-    ensures { result ≡ saturated (power_of (symbol_of by.now) (map symbol_of term.now.symbols) * unsigned_abs term.now.coefficient) }
+    ensures { result ≡ saturated (power_of (symbol_of by.now) (map symbol_of term.now.symbols)
+        * unsigned_abs term.now.coefficient) }
 {
     let power = Saturated::of(power(by, term.symbols.as_slice()) as u128);
     power.times(absolute_coefficient(term))
@@ -94,7 +96,8 @@ fn derived_term(alloc: Global, by: &Symbol, power: usize, term: &Term) -> Result
     requires trees { AllByRecursion HasBoundedTree (map symbol_of term.now.symbols) }
     requires power { power ≡ power_of (symbol_of by.now) (map symbol_of term.now.symbols) }
     requires fits { power * unsigned_abs term.now.coefficient < overflow }
-    ensures value { IfOk result (λ t. term_of t ≡ derivative (symbol_of by.now) (term_of term.now)) }
+    ensures value { IfOk result (λ t. term_of t ≡ derivative (symbol_of by.now)
+        (term_of term.now)) }
     ensures memory { IsOkUnless result PolyError.Memory }
 {
     Ok(Term {
@@ -103,26 +106,33 @@ fn derived_term(alloc: Global, by: &Symbol, power: usize, term: &Term) -> Result
     })
 }
 
-/// The derivative of a term by a symbol: the coefficient times the power of the symbol, which is 0 where the symbol does not stand in the term, and the monomial
-/// with one of it less. Fails only for want of memory.
+/// The derivative of a term by a symbol: the coefficient times the power of the symbol, which is 0
+/// where the symbol does not stand in the term, and the monomial with one of it less. Fails only
+/// for want of memory.
 pub fn derive_term(alloc: Global, by: &Symbol, term: &Term) -> Result<Term, PolyError>
     requires small { edge_count_of (tree_in (symbol_of by.now)) ≤ 24 }
     requires trees { AllByRecursion HasBoundedTree (map symbol_of term.now.symbols) }
-    requires fits { power_of (symbol_of by.now) (map symbol_of term.now.symbols) * unsigned_abs term.now.coefficient < overflow }
-    ensures value { IfOk result (λ t. term_of t ≡ derivative (symbol_of by.now) (term_of term.now)) }
+    requires fits { power_of (symbol_of by.now) (map symbol_of term.now.symbols)
+        * unsigned_abs term.now.coefficient < overflow }
+    ensures value { IfOk result (λ t. term_of t ≡ derivative (symbol_of by.now)
+        (term_of term.now)) }
     ensures memory { IsOkUnless result PolyError.Memory }
 {
     derived_term(alloc, by, power(by, term.symbols.as_slice()), term)
 }
 
-// The derivatives of the terms in which the symbol stands. They keep their order, and no two are of one monomial.
+// The derivatives of the terms in which the symbol stands. They keep their order, and no two are of
+// one monomial.
 fn derived_terms(alloc: Global, by: &Symbol, f: &Poly) -> Result<Items<Term>, PolyError>
     requires small { edge_count_of (tree_in (symbol_of by.now)) ≤ 24 }
     requires poly { IsPoly f.now }
     requires fits { size_of (derivatives (symbol_of by.now) (terms_of f.now.terms)) < overflow }
     ensures poly { IfOk result (λ ts. IsPolynomial (pos (size_of (terms_of ts))) (terms_of ts)) }
-    ensures size { IfOk result (λ ts. size_of (terms_of ts) ≡ size_of (derivatives (symbol_of by.now) (terms_of f.now.terms))) }
-    ensures coefficients { IfOk result (λ ts. (m : List PlainSymbol) → coefficient_of m (terms_of ts) ≡ coefficient_of m (derivatives (symbol_of by.now) (terms_of f.now.terms))) }
+    ensures size { IfOk result (λ ts. size_of (terms_of ts)
+        ≡ size_of (derivatives (symbol_of by.now) (terms_of f.now.terms))) }
+    ensures coefficients { IfOk result (λ ts. (m : List PlainSymbol) →
+        coefficient_of m (terms_of ts) ≡ coefficient_of m (derivatives (symbol_of by.now)
+        (terms_of f.now.terms))) }
     ensures memory { IsOkUnless result PolyError.Memory }
 {
     let mut derived = Items::new(alloc);
@@ -135,17 +145,23 @@ fn derived_terms(alloc: Global, by: &Symbol, f: &Poly) -> Result<Items<Term>, Po
     Ok(derived)
 }
 
-/// The derivative of a polynomial by a symbol: a term `c*s^k*m` without `s` in `m` becomes `(c*k)*s^(k-1)*m`. The new mass is the sum of the absolute
-/// coefficients of the derivative. Fails with `CoefficientTooLarge` exactly where that passes 2^127-1, and for want of memory.
+/// The derivative of a polynomial by a symbol: a term `c*s^k*m` without `s` in `m` becomes
+/// `(c*k)*s^(k-1)*m`. The new mass is the sum of the absolute coefficients of the derivative. Fails
+/// with `CoefficientTooLarge` exactly where that passes 2^127-1, and for want of memory.
 pub fn derive(alloc: Global, f: &Poly, by: &Symbol) -> Result<Poly, PolyError>
     requires poly { IsPoly f.now }
     requires small { edge_count_of (tree_in (symbol_of by.now)) ≤ 24 }
     ensures poly { IfOk result IsPoly }
-    ensures coefficients { IfOk result (λ p. (m : List PlainSymbol) → coefficient_of m (terms_of p.terms) ≡ coefficient_of m (derivatives (symbol_of by.now) (terms_of f.now.terms))) }
+    ensures coefficients { IfOk result (λ p. (m : List PlainSymbol) →
+        coefficient_of m (terms_of p.terms) ≡ coefficient_of m (derivatives (symbol_of by.now)
+        (terms_of f.now.terms))) }
     ensures mass { IfOk result (λ p. p.mass ≡ pos (size_of (terms_of p.terms))) }
-    ensures size { IfOk result (λ p. size_of (terms_of p.terms) ≡ size_of (derivatives (symbol_of by.now) (terms_of f.now.terms))) }
-    ensures fits { IfOk result (λ p. size_of (derivatives (symbol_of by.now) (terms_of f.now.terms)) < overflow) }
-    ensures refusal { IfErr result (IsRefused (overflow ≤ size_of (derivatives (symbol_of by.now) (terms_of f.now.terms)))) }
+    ensures size { IfOk result (λ p. size_of (terms_of p.terms)
+        ≡ size_of (derivatives (symbol_of by.now) (terms_of f.now.terms))) }
+    ensures fits { IfOk result (λ p. size_of (derivatives (symbol_of by.now) (terms_of f.now.terms))
+        < overflow) }
+    ensures refusal { IfErr result
+        (IsRefused (overflow ≤ size_of (derivatives (symbol_of by.now) (terms_of f.now.terms)))) }
 {
     let Some(mass) = derived_mass(by, f.terms.as_slice()).value() else {
         return Err(PolyError::CoefficientTooLarge);

@@ -1,5 +1,6 @@
-//! Polynomials with whole coefficients over symbols: parameters, derivatives of unknowns, noises, trees and expectations of trees. Each carries a mass, which
-//! is at least the sum of its absolute coefficients and bounds those of all that is made of it.
+//! Polynomials with whole coefficients over symbols: parameters, derivatives of unknowns, noises,
+//! trees and expectations of trees. Each carries a mass, which is at least the sum of its absolute
+//! coefficients and bounds those of all that is made of it.
 #![tactic(auto)]
 
 mod collecting;

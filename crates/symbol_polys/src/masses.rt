@@ -6,7 +6,8 @@ use crate::poly::Poly;
 use exact_sums::Saturated;
 
 pub(crate) fn scaled_mass(f: &Poly, by: i128) -> Option<i128>
-    ensures value { MatchOption result (overflow ≤ unsigned_abs by * unsigned_abs f.now.mass) (λ z. z ≡ pos (unsigned_abs by * unsigned_abs f.now.mass)) }
+    ensures value { MatchOption result (overflow ≤ unsigned_abs by * unsigned_abs f.now.mass)
+        (λ z. z ≡ pos (unsigned_abs by * unsigned_abs f.now.mass)) }
     ensures fits { IfSome result (λ z. unsigned_abs by * unsigned_abs f.now.mass < overflow) }
 {
     Saturated::of(by.unsigned_abs())
@@ -15,8 +16,11 @@ pub(crate) fn scaled_mass(f: &Poly, by: i128) -> Option<i128>
 }
 
 pub(crate) fn mass_sum(f: &Poly, g: &Poly) -> Option<i128>
-    ensures value { MatchOption result (overflow ≤ unsigned_abs f.now.mass + unsigned_abs g.now.mass) (λ z. z ≡ pos (unsigned_abs f.now.mass + unsigned_abs g.now.mass)) }
-    ensures fits { IfSome result (λ z. unsigned_abs f.now.mass + unsigned_abs g.now.mass < overflow) }
+    ensures value { MatchOption result (overflow ≤ unsigned_abs f.now.mass
+        + unsigned_abs g.now.mass) (λ z. z
+        ≡ pos (unsigned_abs f.now.mass + unsigned_abs g.now.mass)) }
+    ensures fits { IfSome result (λ z. unsigned_abs f.now.mass + unsigned_abs g.now.mass
+        < overflow) }
 {
     Saturated::of(f.mass.unsigned_abs())
         .plus(Saturated::of(g.mass.unsigned_abs()))
@@ -24,8 +28,11 @@ pub(crate) fn mass_sum(f: &Poly, g: &Poly) -> Option<i128>
 }
 
 pub(crate) fn mass_product(f: &Poly, g: &Poly) -> Option<i128>
-    ensures value { MatchOption result (overflow ≤ unsigned_abs f.now.mass * unsigned_abs g.now.mass) (λ z. z ≡ pos (unsigned_abs f.now.mass * unsigned_abs g.now.mass)) }
-    ensures fits { IfSome result (λ z. unsigned_abs f.now.mass * unsigned_abs g.now.mass < overflow) }
+    ensures value { MatchOption result (overflow ≤ unsigned_abs f.now.mass
+        * unsigned_abs g.now.mass) (λ z. z
+        ≡ pos (unsigned_abs f.now.mass * unsigned_abs g.now.mass)) }
+    ensures fits { IfSome result (λ z. unsigned_abs f.now.mass * unsigned_abs g.now.mass
+        < overflow) }
 {
     Saturated::of(f.mass.unsigned_abs())
         .times(Saturated::of(g.mass.unsigned_abs()))

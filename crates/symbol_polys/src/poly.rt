@@ -19,8 +19,20 @@ pub struct Term {
     pub symbols: Items<Symbol>,
 }
 
-/// A polynomial. Its terms are ordered by the number of symbols and then lexicographically, each monomial stands once, no coefficient is 0, and the sum of the
-/// absolute coefficients is at most the mass. The trees in its symbols are canonical and have at most 24 edges and a decoration sum of at most 4,096.
+/// A polynomial with whole coefficients over symbols, with its mass.
+///
+/// **Order.** Terms stand by the number of symbols of their monomials, then lexicographically. The
+/// symbols of a monomial ascend: parameters, variables, noises, trees, expectations, each by
+/// number, multiindex and tree order. So equal polynomials have equal lists of terms.
+///
+/// **Units.** Coefficients are whole numbers from -(2^127-1) to 2^127-1 (`GREATEST`).
+/// **Invariants.** Calls ask for them, and polynomials that calls answer meet them (`IsPoly` in
+/// contracts): each monomial stands once, no coefficient is 0, and the sum of the absolute
+/// coefficients is at most the mass. The trees in its symbols are canonical and have at most 24
+/// edges (`MOST_EDGES`) and a decoration sum of at most 4,096 (`MOST_DECORATIONS`).
+///
+/// **Example.** `2-3*u+xi-u^2` has four terms, in this order, and a mass of at least 7. The
+/// difference `u-u` is 0, without a term, and has the mass 2.
 #[derive(Drop)]
 pub struct Poly {
     pub terms: Items<Term>,
@@ -48,7 +60,8 @@ pub fn zero(alloc: Global) -> Result<Poly, PolyError>
 fn single(alloc: Global, symbols: Items<Symbol>) -> Result<Poly, PolyError>
     requires { IsMonomial (map symbol_of symbols) }
     ensures poly { IfOk result IsPoly }
-    ensures terms { IfOk result (λ p. terms_of p.terms ≡ record { coefficient = pos 1; symbols = map symbol_of symbols } ∷ []) }
+    ensures terms { IfOk result (λ p. terms_of p.terms
+        ≡ record { coefficient = pos 1; symbols = map symbol_of symbols } ∷ []) }
     ensures mass { IfOk result (λ p. p.mass ≡ pos 1) }
     ensures memory { IsOkUnless result PolyError.Memory }
 {
@@ -63,7 +76,8 @@ fn single(alloc: Global, symbols: Items<Symbol>) -> Result<Poly, PolyError>
 /// The polynomial 1, with the mass 1. Fails only for want of memory.
 pub fn one(alloc: Global) -> Result<Poly, PolyError>
     ensures poly { IfOk result IsPoly }
-    ensures terms { IfOk result (λ p. terms_of p.terms ≡ record { coefficient = pos 1; symbols = [] } ∷ []) }
+    ensures terms { IfOk result (λ p. terms_of p.terms
+        ≡ record { coefficient = pos 1; symbols = [] } ∷ []) }
     ensures mass { IfOk result (λ p. p.mass ≡ pos 1) }
     ensures memory { IsOkUnless result PolyError.Memory }
 {
@@ -74,7 +88,8 @@ pub fn one(alloc: Global) -> Result<Poly, PolyError>
 pub fn symbol(alloc: Global, s: Symbol) -> Result<Poly, PolyError>
     requires { HasBoundedTree (symbol_of s) }
     ensures poly { IfOk result IsPoly }
-    ensures terms { IfOk result (λ p. terms_of p.terms ≡ record { coefficient = pos 1; symbols = symbol_of s ∷ [] } ∷ []) }
+    ensures terms { IfOk result (λ p. terms_of p.terms
+        ≡ record { coefficient = pos 1; symbols = symbol_of s ∷ [] } ∷ []) }
     ensures mass { IfOk result (λ p. p.mass ≡ pos 1) }
     ensures memory { IsOkUnless result PolyError.Memory }
 {
@@ -116,15 +131,17 @@ fn times_all(alloc: Global, by: i128, terms: &[Term]) -> Result<Items<Term>, Pol
     Ok(scaled)
 }
 
-/// A polynomial times a number. The new mass is the absolute multiple of the old one. Fails with `CoefficientTooLarge` exactly where the new mass passes
-/// 2^127-1, and for want of memory.
+/// A polynomial times a number. The new mass is the absolute multiple of the old one. Fails with
+/// `CoefficientTooLarge` exactly where the new mass passes 2^127-1, and for want of memory.
 pub fn scale(alloc: Global, f: &Poly, by: i128) -> Result<Poly, PolyError>
     requires { IsPoly f.now }
     ensures poly { IfOk result IsPoly }
-    ensures coefficients { IfOk result (λ p. (m : List PlainSymbol) → coefficient_of m (terms_of p.terms) ≡ by *ℤ coefficient_of m (terms_of f.now.terms)) }
+    ensures coefficients { IfOk result (λ p. (m : List PlainSymbol) →
+        coefficient_of m (terms_of p.terms) ≡ by *ℤ coefficient_of m (terms_of f.now.terms)) }
     ensures mass { IfOk result (λ p. p.mass ≡ pos (unsigned_abs by * unsigned_abs f.now.mass)) }
     ensures fits { IfOk result (λ p. unsigned_abs by * unsigned_abs f.now.mass < overflow) }
-    ensures refusal { IfErr result (IsRefused (overflow ≤ unsigned_abs by * unsigned_abs f.now.mass)) }
+    ensures refusal { IfErr result
+        (IsRefused (overflow ≤ unsigned_abs by * unsigned_abs f.now.mass)) }
 {
     let Some(mass) = scaled_mass(f, by) else {
         return Err(PolyError::CoefficientTooLarge);

@@ -20,7 +20,8 @@ use std::cmp::Ordering;
 fn monomial_product(alloc: Global, a: &[Symbol], b: &[Symbol]) -> Result<Items<Symbol>, PolyError>
     requires a { IsMonomial (map symbol_of a.now) }
     requires b { IsMonomial (map symbol_of b.now) }
-    ensures value { IfOk result (λ m. map symbol_of m ≡ monomial_product (map symbol_of a.now) (map symbol_of b.now)) }
+    ensures value { IfOk result (λ m. map symbol_of m ≡ monomial_product (map symbol_of a.now)
+        (map symbol_of b.now)) }
     ensures memory { IsOkUnless result PolyError.Memory }
 {
     let mut product = Items::new(alloc);
@@ -49,7 +50,8 @@ fn monomial_product(alloc: Global, a: &[Symbol], b: &[Symbol]) -> Result<Items<S
 pub fn with_symbol(alloc: Global, s: Symbol, symbols: &[Symbol]) -> Result<Items<Symbol>, PolyError>
     requires s { HasBoundedTree (symbol_of s) }
     requires symbols { IsMonomial (map symbol_of symbols.now) }
-    ensures value { IfOk result (λ m. map symbol_of m ≡ with_symbol (symbol_of s) (map symbol_of symbols.now)) }
+    ensures value { IfOk result (λ m. map symbol_of m ≡ with_symbol (symbol_of s)
+        (map symbol_of symbols.now)) }
     ensures memory { IsOkUnless result PolyError.Memory }
 {
     let mut single = Items::new(alloc);
@@ -79,7 +81,8 @@ fn push_products(
     requires t { IsMonomial (map symbol_of t.now.symbols) }
     requires us { AllByRecursion IsMonomial (monomials (terms_of us.now)) }
     requires fits { unsigned_abs t.now.coefficient * size_of (terms_of us.now) < overflow }
-    ensures items { OnOk result (terms.new.items ≡ terms.old.items ++ products_with (term_of t.now) (terms_of us.now)) }
+    ensures items { OnOk result (terms.new.items ≡ terms.old.items
+        ++ products_with (term_of t.now) (terms_of us.now)) }
     ensures memory { IsOkUnless result PolyError.Memory }
 {
     for u in us {
@@ -91,14 +94,17 @@ fn push_products(
 // So many products are kept before they are simplified for the first time.
 const FEW: usize = 4096;
 
-// Terms with the sum of all products of a term of the first list with one of the second. They are simplified whenever they have become twice as many as they
-// were then, so that they are at most a few times as many as the terms that are left.
+// Terms with the sum of all products of a term of the first list with one of the second. They are
+// simplified whenever they have become twice as many as they were then, so that they are at most a
+// few times as many as the terms that are left.
 fn all_products(alloc: Global, ts: &[Term], us: &[Term]) -> Result<Vec<OrderedTerm>, PolyError>
     requires ts { AllByRecursion IsMonomial (monomials (terms_of ts.now)) }
     requires us { AllByRecursion IsMonomial (monomials (terms_of us.now)) }
     requires fits { size_of (terms_of ts.now) * size_of (terms_of us.now) < overflow }
-    ensures size { IfOk result (λ v. size_of v.items ≤ size_of (terms_of ts.now) * size_of (terms_of us.now)) }
-    ensures coefficients { IfOk result (λ v. HaveSameCoefficients v.items (products (terms_of ts.now) (terms_of us.now))) }
+    ensures size { IfOk result (λ v. size_of v.items ≤ size_of (terms_of ts.now)
+        * size_of (terms_of us.now)) }
+    ensures coefficients { IfOk result (λ v. HaveSameCoefficients v.items
+        (products (terms_of ts.now) (terms_of us.now))) }
     ensures memory { IsOkUnless result PolyError.Memory }
 {
     let mut terms = Vec::new(alloc);
@@ -113,16 +119,22 @@ fn all_products(alloc: Global, ts: &[Term], us: &[Term]) -> Result<Vec<OrderedTe
     Ok(terms)
 }
 
-/// The product of two polynomials. The new mass is the product of the masses, also where terms cancel. Fails with `CoefficientTooLarge` exactly where the new
-/// mass passes 2^127-1, and for want of memory. Takes memory for a few times as many terms as the product has, or the sum of its parts on the way.
+/// The product of two polynomials. The new mass is the product of the masses, also where terms
+/// cancel. Fails with `CoefficientTooLarge` exactly where the new mass passes 2^127-1, and for want
+/// of memory. Takes memory for a few times as many terms as the product has, or the sum of its
+/// parts on the way.
 pub fn mul(alloc: Global, f: &Poly, g: &Poly) -> Result<Poly, PolyError>
     requires f { IsPoly f.now }
     requires g { IsPoly g.now }
     ensures poly { IfOk result IsPoly }
-    ensures coefficients { IfOk result (λ p. (m : List PlainSymbol) → coefficient_of m (terms_of p.terms) ≡ coefficient_of m (products (terms_of f.now.terms) (terms_of g.now.terms))) }
-    ensures mass { IfOk result (λ p. p.mass ≡ pos (unsigned_abs f.now.mass * unsigned_abs g.now.mass)) }
+    ensures coefficients { IfOk result (λ p. (m : List PlainSymbol) →
+        coefficient_of m (terms_of p.terms) ≡ coefficient_of m (products (terms_of f.now.terms)
+        (terms_of g.now.terms))) }
+    ensures mass { IfOk result (λ p. p.mass
+        ≡ pos (unsigned_abs f.now.mass * unsigned_abs g.now.mass)) }
     ensures fits { IfOk result (λ p. unsigned_abs f.now.mass * unsigned_abs g.now.mass < overflow) }
-    ensures refusal { IfErr result (IsRefused (overflow ≤ unsigned_abs f.now.mass * unsigned_abs g.now.mass)) }
+    ensures refusal { IfErr result (IsRefused (overflow ≤ unsigned_abs f.now.mass
+        * unsigned_abs g.now.mass)) }
 {
     let Some(mass) = mass_product(f, g) else {
         return Err(PolyError::CoefficientTooLarge);

@@ -37,8 +37,11 @@ fn has_text(
     text: &[u8],
 ) -> Result<bool, PolyError>
     requires types { AreTypes names.now.types.now }
-    requires written { AllByRecursion (IsWritten names.now.types.now names.now.parameters.now) terms.now }
-    ensures same { IfOk result (λ same. IsTrue same ↔ (poly_text names.now.types.now names.now.parameters.now (map written_of terms.now) ≡ text.now)) }
+    requires written { AllByRecursion (IsWritten names.now.types.now names.now.parameters.now)
+        terms.now }
+    ensures same { IfOk result (λ same. IsTrue same
+        ↔ (poly_text names.now.types.now names.now.parameters.now (map written_of terms.now)
+        ≡ text.now)) }
     ensures memory { IsOkUnless result PolyError.Memory }
 {
     let printed = written_text(alloc, names, terms)?;
@@ -50,7 +53,8 @@ fn poly_of(alloc: Global, terms: Vec<WrittenTerm<'_>>) -> Result<Poly, PolyError
     requires { AllByRecursion (λ w. is_numeral w.digits.now ≡ true) terms.items }
     ensures terms { IfOk result (λ p. terms_of p.terms ≡ map written_of terms.entry.items) }
     ensures mass { IfOk result (λ p. p.mass ≡ pos (size_of (map written_of terms.entry.items))) }
-    ensures refusal { IfErr result (IsRefused (overflow ≤ size_of (map written_of terms.entry.items))) }
+    ensures refusal { IfErr result
+        (IsRefused (overflow ≤ size_of (map written_of terms.entry.items))) }
 {
     let Some(mass) = total(terms.as_slice()).value() else {
         return Err(PolyError::CoefficientTooLarge);
@@ -58,13 +62,15 @@ fn poly_of(alloc: Global, terms: Vec<WrittenTerm<'_>>) -> Result<Poly, PolyError
     Ok(made(poly_terms(alloc, terms)?, mass))
 }
 
-/// Reads the text of a polynomial, as `print_poly` writes it. The mass is the sum of the absolute coefficients. The refusals:
+/// Reads the text of a polynomial, as `print_poly` writes it. The mass is the sum of the absolute
+/// coefficients. The refusals:
 ///
-/// - `PolyText`: the text is not the one that is printed for a polynomial over the types and the parameters, whatever the size of its coefficients.
+/// - `PolyText`: the text is not the one that is printed for a polynomial over the types and the
+///   parameters, whatever the size of its coefficients.
 /// - `CoefficientTooLarge`: it is, and the absolute coefficients sum up to more than 2^127-1.
 /// - `Memory`: want of memory.
-///
-/// The trees in it are canonical and have at most 24 edges and a decoration sum of at most 4,096. `2*u^2*xi-E[xi]` has the mass 3; `xi*u`, `u*u` and `+u` are
+/// The trees in it are canonical and have at most 24 edges (`MOST_EDGES`) and a decoration sum of
+/// at most 4,096 (`MOST_DECORATIONS`). `2*u^2*xi-E[xi]` has the mass 3; `xi*u`, `u*u` and `+u` are
 /// refused, since `u*xi`, `u^2` and `u` are printed.
 pub fn read_poly(
     alloc: Global,
@@ -75,10 +81,12 @@ pub fn read_poly(
     requires types { AreTypes types.now }
     requires parameters { AreParameters types.now parameters.now }
     ensures poly { IfOk result IsPoly }
-    ensures text { IfOk result (λ p. IsTextOf types.now parameters.now text.now (terms_of p.terms)) }
+    ensures text { IfOk result (λ p. IsTextOf types.now parameters.now text.now
+        (terms_of p.terms)) }
     ensures mass { IfOk result (λ p. p.mass ≡ pos (size_of (terms_of p.terms))) }
     ensures refusal { IfErr result (IsTextRefused types.now parameters.now text.now) }
-    ensures back { (ts : List PlainTerm) → IsTextOf types.now parameters.now text.now ts → IsReadAs result ts }
+    ensures back { (ts : List PlainTerm) → IsTextOf types.now parameters.now text.now ts →
+        IsReadAs result ts }
 {
     if text == b"0".as_slice() {
         return zero(alloc);
@@ -97,9 +105,14 @@ pub fn read_poly(
     poly_of(alloc, terms)
 }
 
-/// A text is that of the terms of one polynomial at most; and the terms of a polynomial over the types and the parameters are those of the text that is printed
-/// for them.
+/// A text is that of the terms of one polynomial at most; and the terms of a polynomial over the
+/// types and the parameters are those of the text that is printed for them.
 pub fn poly_text_laws()
-    ensures exact { (ty : Types) (ps : List (List ℕ)) (text : List ℕ) (ts us : List PlainTerm) → AreTypes ty → AreParameters ty ps → IsTextOf ty ps text ts → IsTextOf ty ps text us → ts ≡ us }
-    ensures printed { (ty : Types) (ps : List (List ℕ)) (mass : ℤ) (ts : List PlainTerm) → IsPolynomial mass ts → AllByRecursion (λ t. AllByRecursion (IsSymbolOf ty ps) t.symbols) ts → IsTextOf ty ps (poly_text ty ps ts) ts }
+    ensures exact { (ty : Types) (ps : List (List ℕ)) (text : List ℕ) (ts us : List PlainTerm) →
+        AreTypes ty → AreParameters ty ps → IsTextOf ty ps text ts → IsTextOf ty ps text us →
+        ts ≡ us }
+    ensures printed { (ty : Types) (ps : List (List ℕ)) (mass : ℤ) (ts : List PlainTerm) →
+        IsPolynomial mass ts →
+        AllByRecursion (λ t. AllByRecursion (IsSymbolOf ty ps) t.symbols) ts →
+        IsTextOf ty ps (poly_text ty ps ts) ts }
 {}

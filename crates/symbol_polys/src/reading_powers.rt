@@ -76,8 +76,15 @@ fn read_power(
 ) -> Result<(), PolyError>
     requires types { AreTypes names.now.types.now }
     requires parameters { AreParameters names.now.types.now names.now.parameters.now }
-    ensures symbols { OnOk result (AllByRecursion (IsSymbolOf names.now.types.now names.now.parameters.now) (map symbol_of symbols.old) → AllByRecursion (IsSymbolOf names.now.types.now names.now.parameters.now) (map symbol_of symbols.new)) }
-    ensures back { (x : Power) → IsPowerOf names.now.types.now names.now.parameters.now x → power_text names.now.types.now names.now.parameters.now x ≡ text.now → MatchResult result (λ _. map symbol_of symbols.new ≡ map symbol_of symbols.old ++ replicate x.exponent x.symbol) (λ e. e ≡ PolyError.Memory) }
+    ensures symbols { OnOk result
+        (AllByRecursion (IsSymbolOf names.now.types.now names.now.parameters.now) (map symbol_of
+        symbols.old) →
+        AllByRecursion (IsSymbolOf names.now.types.now names.now.parameters.now)
+        (map symbol_of symbols.new)) }
+    ensures back { (x : Power) → IsPowerOf names.now.types.now names.now.parameters.now x →
+        power_text names.now.types.now names.now.parameters.now x ≡ text.now →
+        MatchResult result (λ _. map symbol_of symbols.new ≡ map symbol_of symbols.old
+        ++ replicate x.exponent x.symbol) (λ e. e ≡ PolyError.Memory) }
 {
     let (base, exponent) = split_power(alloc, text)?;
     let s = read_symbol(alloc, names, base)?;
@@ -92,8 +99,13 @@ pub(crate) fn read_powers(
 ) -> Result<Items<Symbol>, PolyError>
     requires types { AreTypes names.now.types.now }
     requires parameters { AreParameters names.now.types.now names.now.parameters.now }
-    ensures symbols { IfOk result (λ m. AllByRecursion (IsSymbolOf names.now.types.now names.now.parameters.now) (map symbol_of m)) }
-    ensures back { (xs : List Power) → AllByRecursion (IsPowerOf names.now.types.now names.now.parameters.now) xs → map (λ p. unmarked 42 p.now) powers.now ≡ map (power_text names.now.types.now names.now.parameters.now) xs → Answers (map symbol_of) result (expanded xs) }
+    ensures symbols { IfOk result
+        (λ m. AllByRecursion (IsSymbolOf names.now.types.now names.now.parameters.now)
+        (map symbol_of m)) }
+    ensures back { (xs : List Power) →
+        AllByRecursion (IsPowerOf names.now.types.now names.now.parameters.now) xs →
+        map (λ p. unmarked 42 p.now) powers.now ≡ map (power_text names.now.types.now
+        names.now.parameters.now) xs → Answers (map symbol_of) result (expanded xs) }
 {
     let mut symbols = Items::new(alloc);
     for power in powers {

@@ -86,7 +86,8 @@ fn multi_behind(dims: u8, text: &[u8]) -> Option<Multi>
 fn read_named(names: &Names<'_>, text: &[u8]) -> Option<Symbol>
     requires types { AreTypes names.now.types.now }
     requires parameters { AreParameters names.now.types.now names.now.parameters.now }
-    ensures { option_map symbol_of result ≡ named_symbol names.now.types.now names.now.parameters.now text.now }
+    ensures { option_map symbol_of result ≡ named_symbol names.now.types.now
+        names.now.parameters.now text.now }
 {
     let name = word(text);
     if let Some(i) = parameter_named(names.parameters, name) {
@@ -133,8 +134,11 @@ pub(crate) fn read_symbol(
 ) -> Result<Symbol, PolyError>
     requires types { AreTypes names.now.types.now }
     requires parameters { AreParameters names.now.types.now names.now.parameters.now }
-    ensures symbol { IfOk result (λ s. IsSymbolOf names.now.types.now names.now.parameters.now (symbol_of s)) }
-    ensures back { (s : PlainSymbol) → IsSymbolOf names.now.types.now names.now.parameters.now s → symbol_text names.now.types.now names.now.parameters.now s ≡ text.now → Answers symbol_of result s }
+    ensures symbol { IfOk result (λ s. IsSymbolOf names.now.types.now names.now.parameters.now
+        (symbol_of s)) }
+    ensures back { (s : PlainSymbol) → IsSymbolOf names.now.types.now names.now.parameters.now s →
+        symbol_text names.now.types.now names.now.parameters.now s ≡ text.now →
+        Answers symbol_of result s }
 {
     if let Some(tree) = tree_behind(b'T', text) {
         return Ok(Symbol::Plain(read_bounded(alloc, names.types, tree)?));

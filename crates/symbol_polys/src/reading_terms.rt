@@ -73,7 +73,8 @@ fn behind_empty<'a, 'b>(pieces: &'b [&'a [u8]]) -> &'b [&'a [u8]]
 // Whether no symbol is less than the one before it.
 fn is_ascending(symbols: &[Symbol]) -> bool
     requires { AllByRecursion HasBoundedTree (map symbol_of symbols.now) }
-    ensures { result ≡ neighbours (λ s t. not (is_lt (symbol_order t s))) (map symbol_of symbols.now) }
+    ensures { result ≡ neighbours (λ s t. not (is_lt (symbol_order t s)))
+        (map symbol_of symbols.now) }
 {
     for i in 1..symbols.len() {
         if symbol_order(&symbols[i], &symbols[i - 1]).is_lt() {
@@ -92,7 +93,10 @@ fn read_term<'a>(
     requires types { AreTypes names.now.types.now }
     requires parameters { AreParameters names.now.types.now names.now.parameters.now }
     ensures written { IfOk result (IsWritten names.now.types.now names.now.parameters.now) }
-    ensures back { (t : PlainTerm) → IsTermOf names.now.types.now names.now.parameters.now t → split_sign piece.now ≡ (is_negative t.coefficient, body_text names.now.types.now names.now.parameters.now t) → Answers written_of result t }
+    ensures back { (t : PlainTerm) → IsTermOf names.now.types.now names.now.parameters.now t →
+        split_sign piece.now
+        ≡ (is_negative t.coefficient, body_text names.now.types.now names.now.parameters.now t) →
+        Answers written_of result t }
 {
     let (is_negative, body) = split_sign(piece);
     let factors = pieces(alloc, body, b"*")?;
@@ -126,8 +130,12 @@ pub(crate) fn read_terms<'a>(
 ) -> Result<Vec<WrittenTerm<'a>>, PolyError>
     requires types { AreTypes names.now.types.now }
     requires parameters { AreParameters names.now.types.now names.now.parameters.now }
-    ensures written { IfOk result (λ v. AllByRecursion (IsWritten names.now.types.now names.now.parameters.now) v.items) }
-    ensures back { (ts : List PlainTerm) → AllByRecursion (IsTermOf names.now.types.now names.now.parameters.now) ts → 0 < length ts → poly_text names.now.types.now names.now.parameters.now ts ≡ text.now → Answers (λ v. map written_of v.items) result ts }
+    ensures written { IfOk result
+        (λ v. AllByRecursion (IsWritten names.now.types.now names.now.parameters.now) v.items) }
+    ensures back { (ts : List PlainTerm) →
+        AllByRecursion (IsTermOf names.now.types.now names.now.parameters.now) ts → 0 < length ts →
+        poly_text names.now.types.now names.now.parameters.now ts ≡ text.now →
+        Answers (λ v. map written_of v.items) result ts }
 {
     let parts = pieces(alloc, text, b"+-")?;
     let mut terms = Vec::new(alloc);

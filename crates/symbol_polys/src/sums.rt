@@ -33,16 +33,21 @@ pub(crate) fn push_copies(
     Ok(())
 }
 
-/// The sum of two polynomials. The new mass is the sum of the masses, also where terms cancel. Fails with `CoefficientTooLarge` exactly where the new mass
-/// passes 2^127-1, and for want of memory.
+/// The sum of two polynomials. The new mass is the sum of the masses, also where terms cancel.
+/// Fails with `CoefficientTooLarge` exactly where the new mass passes 2^127-1, and for want of
+/// memory.
 pub fn add(alloc: Global, f: &Poly, g: &Poly) -> Result<Poly, PolyError>
     requires f { IsPoly f.now }
     requires g { IsPoly g.now }
     ensures poly { IfOk result IsPoly }
-    ensures coefficients { IfOk result (λ p. (m : List PlainSymbol) → coefficient_of m (terms_of p.terms) ≡ coefficient_of m (terms_of f.now.terms) +ℤ coefficient_of m (terms_of g.now.terms)) }
-    ensures mass { IfOk result (λ p. p.mass ≡ pos (unsigned_abs f.now.mass + unsigned_abs g.now.mass)) }
+    ensures coefficients { IfOk result (λ p. (m : List PlainSymbol) →
+        coefficient_of m (terms_of p.terms) ≡ coefficient_of m (terms_of f.now.terms)
+        +ℤ coefficient_of m (terms_of g.now.terms)) }
+    ensures mass { IfOk result (λ p. p.mass
+        ≡ pos (unsigned_abs f.now.mass + unsigned_abs g.now.mass)) }
     ensures fits { IfOk result (λ p. unsigned_abs f.now.mass + unsigned_abs g.now.mass < overflow) }
-    ensures refusal { IfErr result (IsRefused (overflow ≤ unsigned_abs f.now.mass + unsigned_abs g.now.mass)) }
+    ensures refusal { IfErr result (IsRefused (overflow ≤ unsigned_abs f.now.mass
+        + unsigned_abs g.now.mass)) }
 {
     let Some(mass) = mass_sum(f, g) else {
         return Err(PolyError::CoefficientTooLarge);

@@ -15,8 +15,9 @@ use sqlite_items::Items;
 use std::alloc::Global;
 use std::cmp::Ordering;
 
-/// A symbol: a parameter by its number; the derivative of the unknown of a kernel, by a multiindex; a noise; a tree; the expectation of a tree. Symbols are
-/// ordered by variant in this order, then by content.
+/// A symbol: a parameter by its number; the derivative of the unknown of a kernel, by a multiindex;
+/// a noise; a tree; the expectation of a tree. Symbols are ordered by variant in this order, then
+/// by content.
 #[derive(Drop)]
 pub enum Symbol {
     Parameter(u8),
@@ -38,7 +39,8 @@ fn rank(s: &Symbol) -> u8
     }
 }
 
-/// The order of symbols: by variant, then numbers and multiindices in their order and trees in tree order.
+/// The order of symbols: by variant, then numbers and multiindices in their order and trees in tree
+/// order.
 pub fn symbol_order(a: &Symbol, b: &Symbol) -> Ordering
     requires small_a { edge_count_of (tree_in (symbol_of a.now)) ≤ 24 }
     requires small_b { edge_count_of (tree_in (symbol_of b.now)) ≤ 24 }
@@ -112,7 +114,8 @@ pub fn copy_symbols(alloc: Global, symbols: &[Symbol]) -> Result<Items<Symbol>, 
     Ok(copy)
 }
 
-/// The laws of the orders of symbols and of monomials: they are total orders, and `Equal` exactly where the two are equal.
+/// The laws of the orders of symbols and of monomials: they are total orders, and `Equal` exactly
+/// where the two are equal.
 pub fn symbol_order_laws()
     ensures symbols { IsTotalOrder symbol_order }
     ensures equal_symbols { (s t : PlainSymbol) → (symbol_order s t ≡ Equal) ↔ (s ≡ t) }

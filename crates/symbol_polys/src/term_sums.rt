@@ -25,12 +25,14 @@ fn size(terms: &[Term]) -> Saturated
     sum
 }
 
-/// The sum of terms, in any order, of which several may have one monomial. The mass is the sum of the absolute coefficients, also where terms cancel. Fails with
-/// `CoefficientTooLarge` exactly where that passes 2^127-1, and for want of memory.
+/// The sum of terms, in any order, of which several may have one monomial. The mass is the sum of
+/// the absolute coefficients, also where terms cancel. Fails with `CoefficientTooLarge` exactly
+/// where that passes 2^127-1, and for want of memory.
 pub fn sum_of_terms(alloc: Global, terms: &[Term]) -> Result<Poly, PolyError>
     requires { AllByRecursion IsMonomial (monomials (terms_of terms.now)) }
     ensures poly { IfOk result IsPoly }
-    ensures coefficients { IfOk result (λ p. HaveSameCoefficients (terms_of p.terms) (terms_of terms.now)) }
+    ensures coefficients { IfOk result (λ p. HaveSameCoefficients (terms_of p.terms)
+        (terms_of terms.now)) }
     ensures mass { IfOk result (λ p. p.mass ≡ pos (size_of (terms_of terms.now))) }
     ensures fits { IfOk result (λ p. size_of (terms_of terms.now) < overflow) }
     ensures refusal { IfErr result (IsRefused (overflow ≤ size_of (terms_of terms.now))) }

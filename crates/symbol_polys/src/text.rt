@@ -45,7 +45,8 @@ fn put_tree(
     requires types { AreTypes types.now }
     requires tree { HasTypes types.now (plain t.now) }
     requires small { IsSmall (plain t.now) }
-    ensures { OnOk result (out.new.items ≡ out.old.items ++ mark ∷ tree_text types.now (plain t.now)) }
+    ensures { OnOk result (out.new.items ≡ out.old.items
+        ++ mark ∷ tree_text types.now (plain t.now)) }
 {
     let Ok(text) = print_tree(alloc, types, t) else {
         return Err(AllocError);
@@ -63,7 +64,8 @@ fn put_symbol(
     requires types { AreTypes names.now.types.now }
     requires over { IsOver names.now.types.now names.now.parameters.now (symbol_of s.now) }
     requires tree { HasBoundedTree (symbol_of s.now) }
-    ensures { OnOk result (out.new.items ≡ out.old.items ++ symbol_text names.now.types.now names.now.parameters.now (symbol_of s.now)) }
+    ensures { OnOk result (out.new.items ≡ out.old.items
+        ++ symbol_text names.now.types.now names.now.parameters.now (symbol_of s.now)) }
 {
     match s {
         Symbol::Parameter(i) => out.extend_from_slice(names.parameters[*i as usize].bytes()),
@@ -85,7 +87,9 @@ fn put_power(
     requires types { AreTypes names.now.types.now }
     requires over { IsOver names.now.types.now names.now.parameters.now (symbol_of s.now) }
     requires tree { HasBoundedTree (symbol_of s.now) }
-    ensures { OnOk result (out.new.items ≡ out.old.items ++ power_text names.now.types.now names.now.parameters.now record { symbol = symbol_of s.now; exponent = exponent }) }
+    ensures { OnOk result (out.new.items ≡ out.old.items
+        ++ power_text names.now.types.now names.now.parameters.now
+        record { symbol = symbol_of s.now; exponent = exponent }) }
 {
     put_symbol(out, alloc, names, s)?;
     if exponent != 1 {
@@ -99,7 +103,8 @@ fn put_power(
 fn equal_at_front(s: &Symbol, symbols: &[Symbol]) -> usize
     requires small { edge_count_of (tree_in (symbol_of s.now)) ≤ 24 }
     requires all_small { AllByRecursion HasBoundedTree (map symbol_of symbols.now) }
-    ensures count { result ≡ prefix_len (λ t. is_eq (symbol_order (symbol_of s.now) t)) (map symbol_of symbols.now) }
+    ensures count { result ≡ prefix_len (λ t. is_eq (symbol_order (symbol_of s.now) t))
+        (map symbol_of symbols.now) }
     ensures within { result ≤ length symbols.now }
 {
     for i in 0..symbols.len() {
@@ -128,9 +133,12 @@ fn put_powers(
     symbols: &[Symbol],
 ) -> Result<(), AllocError>
     requires types { AreTypes names.now.types.now }
-    requires over { AllByRecursion (IsOver names.now.types.now names.now.parameters.now) (map symbol_of symbols.now) }
+    requires over { AllByRecursion (IsOver names.now.types.now names.now.parameters.now)
+        (map symbol_of symbols.now) }
     requires trees { AllByRecursion HasBoundedTree (map symbol_of symbols.now) }
-    ensures { OnOk result (out.new.items ≡ out.old.items ++ remaining is_first (map (power_text names.now.types.now names.now.parameters.now) (powers (map symbol_of symbols.now)))) }
+    ensures { OnOk result (out.new.items ≡ out.old.items
+        ++ remaining is_first (map (power_text names.now.types.now names.now.parameters.now)
+        (powers (map symbol_of symbols.now)))) }
 {
     let mut is_first = is_first;
     let mut at = 0;
@@ -154,9 +162,12 @@ pub(crate) fn put_body(
     symbols: &[Symbol],
 ) -> Result<(), AllocError>
     requires types { AreTypes names.now.types.now }
-    requires over { AllByRecursion (IsOver names.now.types.now names.now.parameters.now) (map symbol_of symbols.now) }
+    requires over { AllByRecursion (IsOver names.now.types.now names.now.parameters.now)
+        (map symbol_of symbols.now) }
     requires trees { AllByRecursion HasBoundedTree (map symbol_of symbols.now) }
-    ensures { OnOk result (out.new.items ≡ out.old.items ++ joined (factors names.now.types.now names.now.parameters.now digits.now (map symbol_of symbols.now))) }
+    ensures { OnOk result (out.new.items ≡ out.old.items
+        ++ joined (factors names.now.types.now names.now.parameters.now digits.now
+        (map symbol_of symbols.now))) }
 {
     let is_left_out = digits == b"1".as_slice() && !symbols.is_empty();
     if !is_left_out {
@@ -181,7 +192,8 @@ fn put_term(
 ) -> Result<(), AllocError>
     requires types { AreTypes names.now.types.now }
     requires over { IsTermOver names.now.types.now names.now.parameters.now (term_of term.now) }
-    ensures { OnOk result (out.new.items ≡ out.old.items ++ body_text names.now.types.now names.now.parameters.now (term_of term.now)) }
+    ensures { OnOk result (out.new.items ≡ out.old.items
+        ++ body_text names.now.types.now names.now.parameters.now (term_of term.now)) }
 {
     let mut buffer = Buffer::new();
     let digits = buffer.format(size(term)).as_bytes();
@@ -195,8 +207,10 @@ fn put_further(
     terms: &[Term],
 ) -> Result<(), AllocError>
     requires types { AreTypes names.now.types.now }
-    requires over { AllByRecursion (IsTermOver names.now.types.now names.now.parameters.now) (terms_of terms.now) }
-    ensures { OnOk result (out.new.items ≡ out.old.items ++ signed_texts names.now.types.now names.now.parameters.now (terms_of terms.now)) }
+    requires over { AllByRecursion (IsTermOver names.now.types.now names.now.parameters.now)
+        (terms_of terms.now) }
+    ensures { OnOk result (out.new.items ≡ out.old.items
+        ++ signed_texts names.now.types.now names.now.parameters.now (terms_of terms.now)) }
 {
     for term in terms {
         out.push(if term.coefficient < 0 { b'-' } else { b'+' })?;
@@ -212,8 +226,10 @@ fn put_terms(
     terms: &[Term],
 ) -> Result<(), AllocError>
     requires types { AreTypes names.now.types.now }
-    requires over { AllByRecursion (IsTermOver names.now.types.now names.now.parameters.now) (terms_of terms.now) }
-    ensures { OnOk result (out.new.items ≡ out.old.items ++ poly_text names.now.types.now names.now.parameters.now (terms_of terms.now)) }
+    requires over { AllByRecursion (IsTermOver names.now.types.now names.now.parameters.now)
+        (terms_of terms.now) }
+    ensures { OnOk result (out.new.items ≡ out.old.items
+        ++ poly_text names.now.types.now names.now.parameters.now (terms_of terms.now)) }
 {
     match terms {
         [] => Ok(out.push(b'0')?),
@@ -227,10 +243,12 @@ fn put_terms(
     }
 }
 
-/// The text of a polynomial: `0`, or its terms in order, each with its sign, of which a first `+` is left out. A term is the absolute coefficient, where it is
-/// not 1 or there are no symbols, and the powers of its symbols, joined by `*`; an exponent stands after `^` where it is above 1. A parameter and a noise are
-/// written by their names, a variable by the name of its unknown, with `'` and the multiindex where that is not 0, a tree as `T` and its text, and the
-/// expectation of a tree as `E` and its text: `-3*u^2*xi+E[xi*u[xi]]`. Fails only for want of memory.
+/// The text of a polynomial: `0`, or its terms in order, each with its sign, of which a first `+`
+/// is left out. A term is the absolute coefficient, where it is not 1 or there are no symbols, and
+/// the powers of its symbols, joined by `*`; an exponent stands after `^` where it is above 1. A
+/// parameter and a noise are written by their names, a variable by the name of its unknown, with
+/// `'` and the multiindex where that is not 0, a tree as `T` and its text, and the expectation of a
+/// tree as `E` and its text: `-3*u^2*xi+E[xi*u[xi]]`. Fails only for want of memory.
 pub fn print_poly(
     alloc: Global,
     types: &Types,
@@ -239,7 +257,8 @@ pub fn print_poly(
 ) -> Result<Vec<u8>, PolyError>
     requires types { AreTypes types.now }
     requires over { AllByRecursion (IsTermOver types.now parameters.now) (terms_of f.now.terms) }
-    ensures text { IfOk result (λ v. v.items ≡ poly_text types.now parameters.now (terms_of f.now.terms)) }
+    ensures text { IfOk result (λ v. v.items ≡ poly_text types.now parameters.now
+        (terms_of f.now.terms)) }
     ensures memory { IsOkUnless result PolyError.Memory }
 {
     let names = Names { types, parameters };

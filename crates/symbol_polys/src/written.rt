@@ -22,7 +22,8 @@ use numerals::magnitude;
 use sqlite_items::Items;
 use std::alloc::{AllocError, Global};
 
-/// A term as it is read. Its absolute coefficient is kept as its digits, since it may be any number.
+/// A term as it is read. Its absolute coefficient is kept as its digits, since it may be any
+/// number.
 #[derive(Drop)]
 pub(crate) struct WrittenTerm<'a> {
     pub(crate) is_negative: bool,
@@ -32,8 +33,10 @@ pub(crate) struct WrittenTerm<'a> {
 
 /// Whether each monomial is less than the next one.
 pub(crate) fn are_ascending(terms: &[WrittenTerm<'_>]) -> bool
-    requires { AllByRecursion (λ w. AllByRecursion HasBoundedTree (map symbol_of w.symbols)) terms.now }
-    ensures { result ≡ neighbours (λ m n. is_lt (monomial_order m n)) (monomials (map written_of terms.now)) }
+    requires { AllByRecursion (λ w. AllByRecursion HasBoundedTree (map symbol_of w.symbols))
+        terms.now }
+    ensures { result ≡ neighbours (λ m n. is_lt (monomial_order m n))
+        (monomials (map written_of terms.now)) }
 {
     for i in 1..terms.len() {
         let order = monomial_order(terms[i - 1].symbols.as_slice(), terms[i].symbols.as_slice());
@@ -60,7 +63,8 @@ fn put_written(
 ) -> Result<(), AllocError>
     requires types { AreTypes names.now.types.now }
     requires written { IsWritten names.now.types.now names.now.parameters.now term.now }
-    ensures { OnOk result (out.new.items ≡ out.old.items ++ body_text names.now.types.now names.now.parameters.now (written_of term.now)) }
+    ensures { OnOk result (out.new.items ≡ out.old.items
+        ++ body_text names.now.types.now names.now.parameters.now (written_of term.now)) }
 {
     put_body(out, alloc, names, term.digits, term.symbols.as_slice())
 }
@@ -72,8 +76,10 @@ fn put_further(
     terms: &[WrittenTerm<'_>],
 ) -> Result<(), AllocError>
     requires types { AreTypes names.now.types.now }
-    requires written { AllByRecursion (IsWritten names.now.types.now names.now.parameters.now) terms.now }
-    ensures { OnOk result (out.new.items ≡ out.old.items ++ signed_texts names.now.types.now names.now.parameters.now (map written_of terms.now)) }
+    requires written { AllByRecursion (IsWritten names.now.types.now names.now.parameters.now)
+        terms.now }
+    ensures { OnOk result (out.new.items ≡ out.old.items
+        ++ signed_texts names.now.types.now names.now.parameters.now (map written_of terms.now)) }
 {
     for term in terms {
         out.push(if is_negative(term) { b'-' } else { b'+' })?;
@@ -89,8 +95,10 @@ fn put_all(
     terms: &[WrittenTerm<'_>],
 ) -> Result<(), AllocError>
     requires types { AreTypes names.now.types.now }
-    requires written { AllByRecursion (IsWritten names.now.types.now names.now.parameters.now) terms.now }
-    ensures { OnOk result (out.new.items ≡ out.old.items ++ poly_text names.now.types.now names.now.parameters.now (map written_of terms.now)) }
+    requires written { AllByRecursion (IsWritten names.now.types.now names.now.parameters.now)
+        terms.now }
+    ensures { OnOk result (out.new.items ≡ out.old.items
+        ++ poly_text names.now.types.now names.now.parameters.now (map written_of terms.now)) }
 {
     match terms {
         [] => Ok(out.push(b'0')?),
@@ -111,8 +119,10 @@ pub(crate) fn written_text(
     terms: &[WrittenTerm<'_>],
 ) -> Result<Vec<u8>, AllocError>
     requires types { AreTypes names.now.types.now }
-    requires written { AllByRecursion (IsWritten names.now.types.now names.now.parameters.now) terms.now }
-    ensures { IfOk result (λ v. v.items ≡ poly_text names.now.types.now names.now.parameters.now (map written_of terms.now)) }
+    requires written { AllByRecursion (IsWritten names.now.types.now names.now.parameters.now)
+        terms.now }
+    ensures { IfOk result (λ v. v.items ≡ poly_text names.now.types.now names.now.parameters.now
+        (map written_of terms.now)) }
 {
     let mut out = Vec::new(alloc);
     put_all(&mut out, alloc, names, terms)?;

@@ -56,7 +56,8 @@ joined : (len n value : ℕ) (r rest : List ℕ) → (len == 0) ≡ false → va
 unfolding read_at
 joined len n value r rest above is fits after = rw (above, is, fits, after) refl
 
-value_of_front : (ds rest : List ℕ) (n : ℕ) → 0 < length ds → digits_value 10 ds ≡ n → n < 2 ^ 63 → digits_len (ds ++ rest) ≡ length ds → NoSpace rest → number_at (ds ++ rest) ≡ Some (n, rest)
+value_of_front : (ds rest : List ℕ) (n : ℕ) → 0 < length ds → digits_value 10 ds ≡ n → n < 2 ^ 63 →
+    digits_len (ds ++ rest) ≡ length ds → NoSpace rest → number_at (ds ++ rest) ≡ Some (n, rest)
 unfolding number_at read_at
 value_of_front ds rest n some value fits front stop =
     joined (digits_len (ds ++ rest)) n (digits_value 10 (take (digits_len (ds ++ rest)) (ds ++ rest))) (skip (drop (digits_len (ds ++ rest)) (ds ++ rest))) rest
@@ -86,7 +87,8 @@ unfolding nonzero_at
 nonzero_back n rest above fits stop = rw (number_back n rest fits stop) (rw (not_zero n above) refl)
 
 -- a mark and a printed number above 0 are read back
-pub nonzero_after_back : (mark n : ℕ) (rest : List ℕ) → (mark == mark) ≡ true → 0 < n → n < 2 ^ 63 → Stops rest → nonzero_after mark (mark ∷ decimal n ++ rest) ≡ Some (n, rest)
+pub nonzero_after_back : (mark n : ℕ) (rest : List ℕ) → (mark == mark) ≡ true → 0 < n → n < 2 ^ 63 →
+    Stops rest → nonzero_after mark (mark ∷ decimal n ++ rest) ≡ Some (n, rest)
 unfolding nonzero_after
 nonzero_after_back mark n rest same above fits stop = rw (mark_back mark (decimal n ++ rest) same (decimal_no_space n rest fits)) (nonzero_back n rest above fits stop)
 

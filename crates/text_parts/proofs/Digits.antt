@@ -15,7 +15,10 @@ pub in_range : (c : ℕ) → is_ascii_digit c ≡ true → IsInRange 48 57 c
 in_range c h = search (rules, tests)
 
 -- the number with one more digit
-pub value_push : (ds : List ℕ) (i number next : ℕ) → i < length ds → is_ascii_digit (get_or ds i 0) ≡ true → number ≡ min (digits_value 10 (take i ds)) most → next ≡ min (number * 10 + (get_or ds i 0 - 48)) most → next ≡ min (digits_value 10 (take (i + 1) ds)) most
+pub value_push : (ds : List ℕ) (i number next : ℕ) → i < length ds →
+    is_ascii_digit (get_or ds i 0) ≡ true → number ≡ min (digits_value 10 (take i ds)) most →
+    next ≡ min (number * 10 + (get_or ds i 0 - 48)) most →
+    next ≡ min (digits_value 10 (take (i + 1) ds)) most
 value_push ds i number next lt digit now step =
     rw (take_more ds i 0 lt, digits_value_push 10 (take i ds) (get_or ds i 0)) (omega (arith, digit_value_digit (get_or ds i 0) (in_range _ digit)))
 

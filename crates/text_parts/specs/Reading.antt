@@ -1,12 +1,18 @@
--- Texts that are read from the left: each reader gives a value and the bytes after it, and the spaces after a token are passed over.
---   r >>= f == what f gives for what r found; nothing where r found nothing
+-- Texts that are read from the left: each reader gives a value and the bytes after it, and the
+-- spaces after a token are passed over.
+--   ◌>>=◌ == r >>= f is what f gives for what r found; nothing where r found nothing
+--   most == 2^63-1, as which every greater number counts
 --   skip text == text without the spaces at its front
+--   digits_len text == how many digits stand at the front of text
 --   number_at text == a whole number, one or more digits; a number past 2^63-1 counts as 2^63-1
 --   nonzero_at text == a whole number that is not 0
 --   mark_at c text == the byte c
---   nonzero_after c text == the byte c and a whole number that is not 0; 1 where the byte is not there
---   if_there found there without == `there` of what follows, where something was found, else `without`
---   is_trimmed text == no space stands at the front or at the end of text
+--   nonzero_after c text == the byte c and a whole number that is not 0; 1 where the byte is not
+--       there
+--   if_there found there without == `there` of what follows, where something was found, else
+--       `without`
+--   begins_well text, ends_well text == no space stands at the front of text; at its end
+--   is_trimmed text == both are so
 use Rattle.std.specs.Prelude.{ℕ, ◌-◌, ◌^◌, ◌==◌, Bool, true, not, ◌&&◌, List, [], ◌∷◌, length, slice_index, drop, min, if◌then◌else◌, take, Option, None, Some}
 use Rattle.std.specs.Char.{is_ascii_digit}
 use Rattle.std.specs.List.{prefix_len}

@@ -1,4 +1,5 @@
-//! What the texts of degrees, right sides, trees and polynomials have in common: numbers, marks and the spaces between them.
+//! What the texts of degrees, right sides, trees and polynomials have in common: numbers, marks and
+//! the spaces between them. They stand below all readers, so that these agree.
 #![tactic(auto)]
 
 mod reading;

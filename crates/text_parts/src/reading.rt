@@ -49,7 +49,8 @@ fn digits_len(text: &[u8]) -> usize
     text.iter().take_while(|b| b.is_ascii_digit()).count()
 }
 
-/// A whole number, and what follows it and the spaces after it. A number past 2^63-1 counts as 2^63-1.
+/// A whole number, and what follows it and the spaces after it. A number past 2^63-1 counts as
+/// 2^63-1.
 #[tactic(auto, unfolding(crate::specs::Reading::number_at))]
 pub fn number_of(text: &[u8]) -> Option<(u64, &[u8])>
     ensures value { option_map (λ x. (x.0, x.1.now)) result ≡ number_at text.now }

@@ -27,14 +27,16 @@ module _ (eq : Equation) (rule : Rule) (lows : List Degree) where
   }
 
   -- what the edge itself has at least is on both sides
-  cancelled : (most low next degree loss front back : Degree) → IsNotAbove (degree_plus most low) (degree_plus (degree_plus next degree) (degree_plus front (degree_plus (degree_plus low loss) back))) →
+  cancelled : (most low next degree loss front back : Degree) →
+      IsNotAbove (degree_plus most low) (degree_plus (degree_plus next degree) (degree_plus front (degree_plus (degree_plus low loss) back))) →
       IsNotAbove most (degree_plus (degree_plus (degree_plus degree loss) next) (degree_plus front back))
   cancelled most low next degree loss front back h =
       let left = degree_plus (degree_plus (degree_plus degree loss) next) (degree_plus front back) in
       let all = degree_plus (degree_plus next degree) (degree_plus front (degree_plus (degree_plus low loss) back)) in
       plus_cancels most left low low (subst (IsNotAbove (degree_plus most low)) (degree_is all (degree_plus left low) (omega (arith, ints)) (omega (arith, ints))) h) (not_above_self low)
 
-  edge_in : (n : NodeType) (front : List EdgeLabel) (e : EdgeLabel) (back : List EdgeLabel) → labels n ≡ front ++ e ∷ back → (f : EdgeType) × IsIn f n.edges × (label f ≡ e)
+  edge_in : (n : NodeType) (front : List EdgeLabel) (e : EdgeLabel) (back : List EdgeLabel) →
+      labels n ≡ front ++ e ∷ back → (f : EdgeType) × IsIn f n.edges × (label f ≡ e)
   edge_in n front e back same = from_map label e n.edges (subst (IsIn e) (sym same) (in_append_right e front (e ∷ back) (inl refl)))
 
   pub enough_rows : (mosts : List Degree) → All (IsEnoughRow eq.types lows mosts) rule.rows → AreBudgets eq rule lows mosts

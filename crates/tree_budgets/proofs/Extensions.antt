@@ -16,11 +16,15 @@ use Rattle.tree_budgets.specs.Fronts.{IsExtension, AreExtensions}
 abbrev places : List Extension → List ℕ
 places xs = map (λ x. x.node) xs
 
-all_below : (xs : List Extension) (i : ℕ) (y : Extension) → y.node ≡ i → (k : ℕ) → k < i → AllByRecursion (λ l. nat_cmp k l ≡ Less) (places xs) → AllByRecursion (λ l. nat_cmp k l ≡ Less) (places (xs ++ y ∷ []))
+all_below : (xs : List Extension) (i : ℕ) (y : Extension) → y.node ≡ i → (k : ℕ) → k < i →
+    AllByRecursion (λ l. nat_cmp k l ≡ Less) (places xs) →
+    AllByRecursion (λ l. nat_cmp k l ≡ Less) (places (xs ++ y ∷ []))
 all_below [] i y is k lt h = (sym (nat_cmp_is k y.node Less (omega (arith, lt, is))), tt)
 all_below (x ∷ xs) i y is k lt h = (h.0, all_below xs i y is k lt h.1)
 
-sorted_more : (xs : List Extension) (i : ℕ) (y : Extension) → y.node ≡ i → ((x : Extension) → IsIn x xs → x.node < i) → IsStrictlySortedBy nat_cmp (places xs) → IsStrictlySortedBy nat_cmp (places (xs ++ y ∷ []))
+sorted_more : (xs : List Extension) (i : ℕ) (y : Extension) → y.node ≡ i →
+    ((x : Extension) → IsIn x xs → x.node < i) → IsStrictlySortedBy nat_cmp (places xs) →
+    IsStrictlySortedBy nat_cmp (places (xs ++ y ∷ []))
 unfolding IsStrictlySortedBy
 sorted_more [] i y is below h = (tt, tt)
 sorted_more (x ∷ xs) i y is below h = (all_below xs i y is x.node (below x (inl refl)) h.0, sorted_more xs i y is (λ z m. below z (inr m)) h.1)
@@ -71,7 +75,9 @@ module _ (nodes : List NodeType) (es : List EdgeType) where
       made g k = record { edge = g; node = k }
 
   -- the node type at the next place is none
-  pub no_more : (i : ℕ) (m : NodeType) (xs : List Extension) → slice_get nodes i ≡ Some m → ((e : EdgeType) → IsExtension m es e → ⊥) → AreExtensions nodes es i xs → AreExtensions nodes es (i + 1) xs
+  pub no_more : (i : ℕ) (m : NodeType) (xs : List Extension) → slice_get nodes i ≡ Some m →
+      ((e : EdgeType) → IsExtension m es e → ⊥) → AreExtensions nodes es i xs →
+      AreExtensions nodes es (i + 1) xs
   no_more i m xs at none h = record {
     ascending = h.ascending;
     below = λ x k. omega (arith, h.below x k);
@@ -83,5 +89,6 @@ module _ (nodes : List NodeType) (es : List EdgeType) where
   }
 
 -- what is read at a place
-pub read_at : (nodes items : List NodeType) (i : ℕ) (m none : NodeType) → i < length nodes → items ≡ nodes → m ≡ get_or items i none → slice_get nodes i ≡ Some m
+pub read_at : (nodes items : List NodeType) (i : ℕ) (m none : NodeType) → i < length nodes →
+    items ≡ nodes → m ≡ get_or items i none → slice_get nodes i ≡ Some m
 read_at nodes items i m none lt same is = slice_get-get_or nodes i none lt ∙ ap Some (sym (is ∙ ap (λ (xs : List NodeType). get_or xs i none) same))

@@ -26,7 +26,8 @@ map-append [] ys = refl
 map-append (x ∷ xs) ys = ap (λ (es : List EdgeLabel). label x ∷ es) (map-append xs ys)
 
 -- a list whose labels end in those of another ends in it
-split : (xs : List EdgeType) (front es : List EdgeLabel) → map label xs ≡ front ++ es → (f : List EdgeType) × (zs : List EdgeType) × (xs ≡ f ++ zs) × (map label zs ≡ es)
+split : (xs : List EdgeType) (front es : List EdgeLabel) → map label xs ≡ front ++ es →
+    (f : List EdgeType) × (zs : List EdgeType) × (xs ≡ f ++ zs) × (map label zs ≡ es)
 split xs [] es h = ([], xs, refl, h)
 split [] (l ∷ front) es h = absurd cc
 split (x ∷ xs) (l ∷ front) es h = let rest = split xs front es (ap (drop 1) h) in (x ∷ rest.0, rest.1, ap (λ (ys : List EdgeType). x ∷ ys) rest.2, rest.3)
@@ -53,7 +54,8 @@ pub usable_front : (xs f end : List EdgeType) → IsUsable (map label xs) → xs
 usable_front xs f end u h = usable_part (map label f) (map label end) (subst IsUsable (ap (map label) h ∙ map-append f end) u)
 
 module _ (ty : Types) (lows : List Degree) (n : NodeType) (end : List EdgeType) where
-  pub front_found : (f : List EdgeType) (d : Degree) → IsUsable (labels n) → n.edges ≡ f ++ end → d ≡ lows_of ty lows (map label f) → IsFrontLow ty lows n (map label end) d
+  pub front_found : (f : List EdgeType) (d : Degree) → IsUsable (labels n) → n.edges ≡ f ++ end →
+      d ≡ lows_of ty lows (map label f) → IsFrontLow ty lows n (map label end) d
   front_found f d u h is = record { front = map label f; usable = u; ends = ap (map label) h ∙ map-append f end; is = is }
 
   pub front_least : (f : List EdgeType) (d : Degree) → n.edges ≡ f ++ end → d ≡ lows_of ty lows (map label f) → IsFrontLeast ty lows (map label end) d n
@@ -69,5 +71,6 @@ module _ (ty : Types) (lows : List Degree) (n : NodeType) (end : List EdgeType) 
   pub unusable_front : (d : Degree) → (IsUsable (labels n) → ⊥) → IsFrontLeast ty lows (map label end) d n
   unusable_front d h = record { least = λ front u ends. absurd (h u) }
 
-pub least_lower : (ty : Types) (lows : List Degree) (es : List EdgeLabel) (d e : Degree) (n : NodeType) → IsNotAbove e d → IsFrontLeast ty lows es d n → IsFrontLeast ty lows es e n
+pub least_lower : (ty : Types) (lows : List Degree) (es : List EdgeLabel) (d e : Degree) (n : NodeType) →
+    IsNotAbove e d → IsFrontLeast ty lows es d n → IsFrontLeast ty lows es e n
 least_lower ty lows es d e n le h = record { least = λ front u ends. not_above_trans e d (lows_of ty lows front) le (h.least front u ends) }

@@ -7,7 +7,8 @@ use Rattle.ordered_lists.specs.Members.{IsIn}
 use Rattle.normal_rule.specs.declared.EdgeType.{EdgeType}
 
 -- one step of the loop, with the member that it reads
-pub all_step : {X : Type 0} (P : X → Type 0) (xs : List X) (i : ℕ) (x d : X) → i < length xs → x ≡ get_or xs i d → All P (take i xs) → P x → All P (take (i + 1) xs)
+pub all_step : {X : Type 0} (P : X → Type 0) (xs : List X) (i : ℕ) (x d : X) → i < length xs →
+    x ≡ get_or xs i d → All P (take i xs) → P x → All P (take (i + 1) xs)
 all_step P xs i x d lt is h k = All-more P xs i d lt h (subst P is k)
 
 -- its end, over the list that the items are read from

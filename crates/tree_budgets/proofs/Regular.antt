@@ -65,7 +65,8 @@ module _ (eq : Equation) (q : IsEquation eq) where
       let b = type_b_within eq.types k q.types in
       record { a = record { low = omega (arith, ints); high = omega (arith, ints) }; b = record { low = omega (arith, ints); high = omega (arith, ints) } }
 
-  noise_low : (o : Option TypeEntry) (reg : ℤ) → option_map (λ e. e.kind) o ≡ Some Noise → regularity_at o reg ≡ (unwrap_or (option_map (λ e. e.degree) o) degree_zero).a
+  noise_low : (o : Option TypeEntry) (reg : ℤ) → option_map (λ e. e.kind) o ≡ Some Noise →
+      regularity_at o reg ≡ (unwrap_or (option_map (λ e. e.degree) o) degree_zero).a
   noise_low None reg h = absurd cc
   noise_low (Some e) reg h = noise_by e.kind h
     where
@@ -83,7 +84,9 @@ module _ (eq : Equation) (q : IsEquation eq) where
   }
 
   -- what a node type brings, in standard parts
-  brought : (lows : List Degree) (es : List EdgeType) (z : ℤ) → ((k : ℕ) → k < length eq.types.list → low_at lows k ≡ regular_low eq k) → All (λ e. e.kind.0 < length eq.types.list) es →
+  brought : (lows : List Degree) (es : List EdgeType) (z : ℤ) →
+      ((k : ℕ) → k < length eq.types.list → low_at lows k ≡ regular_low eq k) →
+      All (λ e. e.kind.0 < length eq.types.list) es →
       fold (λ sum e. sum +ℤ edge_regularity eq e) z es ≡ z +ℤ (lows_of eq.types lows (map label es)).a
   brought lows [] z h known = omega (arith, ints)
   brought lows (e ∷ es) z h known =
@@ -104,7 +107,8 @@ module _ (eq : Equation) (q : IsEquation eq) where
   lower_standard : (d e : Degree) → d.a <ℤ e.a → IsNotAbove d e
   lower_standard d e h = from_parts d e record { standard = omega (arith, ints); tied = λ same. absurd (omega (arith, ints)) }
 
-  pub regular_rows : (rule : Rule) → IsRule eq rule → IsSubcritical eq rule → (row : RuleRow) → IsIn row rule.rows → IsLowRow eq.types (by_number (regular_low eq) (length eq.types.list)) row
+  pub regular_rows : (rule : Rule) → IsRule eq rule → IsSubcritical eq rule → (row : RuleRow) →
+      IsIn row rule.rows → IsLowRow eq.types (by_number (regular_low eq) (length eq.types.list)) row
   regular_rows rule r sub row i = record {
     each = all_from_members (IsLowAt eq.types lows row.kernel.0) row.nodes
         (λ n m. record {
@@ -132,7 +136,8 @@ module _ (eq : Equation) (q : IsEquation eq) where
   pub slack_fits : (k : ℕ) → FitsSigned w64 (slack eq k).a × FitsSigned w64 (slack eq k).b
   slack_fits k = let a = slack_a k in let b = slack_b k in (omega (arith, ints), omega (arith, ints))
 
-  pub most_fits : (s : Degree) (k : ℕ) → IsWithin s.a 40000000 → IsWithin s.b 40000000 → FitsSigned w64 (regular_most eq s k).a × FitsSigned w64 (regular_most eq s k).b
+  pub most_fits : (s : Degree) (k : ℕ) → IsWithin s.a 40000000 → IsWithin s.b 40000000 →
+      FitsSigned w64 (regular_most eq s k).a × FitsSigned w64 (regular_most eq s k).b
   most_fits s k ha hb = let a = slack_a k in let b = slack_b k in (omega (arith, ints), omega (arith, ints))
 
   most_bounded : (s : Degree) (k : ℕ) → IsWithin s.a 40000000 → IsWithin s.b 40000000 → IsBounded (regular_most eq s k)
@@ -154,7 +159,8 @@ module _ (eq : Equation) (q : IsEquation eq) where
   slack_none = record { each = λ k lt. absurd (omega (arith, lt)); a = record { low = omega (arith, ints); high = omega (arith, ints) }; b = record { low = omega (arith, ints); high = omega (arith, ints) } }
 
   -- one more type
-  pub slack_more : (k : ℕ) (d e : Degree) → IsSlackMost eq k d → (e ≡ d) ⊎ (e ≡ slack eq k) → IsNotAbove d e → IsNotAbove (slack eq k) e → IsSlackMost eq (k + 1) e
+  pub slack_more : (k : ℕ) (d e : Degree) → IsSlackMost eq k d → (e ≡ d) ⊎ (e ≡ slack eq k) →
+      IsNotAbove d e → IsNotAbove (slack eq k) e → IsSlackMost eq (k + 1) e
   slack_more k d e h is old new = record {
     each = λ j lt. elim (nat_split j k lt) [ inl below ↦ not_above_trans (slack eq j) d e (h.each j below) old | inr same ↦ subst (λ (x : ℕ). IsNotAbove (slack eq x) e) same new ];
     a = elim is [ inl same ↦ subst (λ (x : Degree). IsWithin x.a 40000000) (sym same) h.a | inr same ↦ subst (λ (x : Degree). IsWithin x.a 40000000) (sym same) (slack_a k) ];
@@ -173,7 +179,8 @@ module _ (eq : Equation) (q : IsEquation eq) where
       let ps = p.standard in
       from_parts degree_zero (regular_most eq s k) record { standard = omega (arith, ints); tied = λ same. let pt = p.tied (omega (arith, ints)) in omega (arith, ints) }
 
-  pub regular_enough : (rule : Rule) (s : Degree) → IsRule eq rule → IsSubcritical eq rule → IsSlackMost eq (length eq.types.list) s → (row : RuleRow) → IsIn row rule.rows →
+  pub regular_enough : (rule : Rule) (s : Degree) → IsRule eq rule → IsSubcritical eq rule →
+      IsSlackMost eq (length eq.types.list) s → (row : RuleRow) → IsIn row rule.rows →
       IsEnoughRow eq.types (by_number (regular_low eq) (length eq.types.list)) (by_number (regular_most eq s) (length eq.types.list)) row
   regular_enough rule s r sub most row i = record {
     root = subst (IsNotAbove degree_zero) (sym own) (root_left s row.kernel.0 (most.each row.kernel.0 known));

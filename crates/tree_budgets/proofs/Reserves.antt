@@ -42,7 +42,9 @@ module _ (ty : Types) (lows : List Degree) (row : RuleRow) (es : List EdgeLabel)
   lower_all : (d e : Degree) (ns : List NodeType) → IsNotAbove e d → All (IsFrontLeast ty lows es d) ns → All (IsFrontLeast ty lows es e) ns
   lower_all d e ns le all = λ k m lt. least_lower ty lows es d e (get_or ns k m) le (all k m lt)
 
-  pub least_more : (items : List NodeType) (i : ℕ) (m none : NodeType) (d e : Degree) → i < length items → m ≡ get_or items i none → items ≡ row.nodes → IsLeastSoFar ty lows row es (take i items) d → IsNotAbove e d →
+  pub least_more : (items : List NodeType) (i : ℕ) (m none : NodeType) (d e : Degree) →
+      i < length items → m ≡ get_or items i none → items ≡ row.nodes →
+      IsLeastSoFar ty lows row es (take i items) d → IsNotAbove e d →
       IsFrontLeast ty lows es e m → (e ≡ d) ⊎ IsFrontLow ty lows m es e → IsLeastSoFar ty lows row es (take (i + 1) items) e
   least_more items i m none d e lt at same s le here is = record {
     attained = λ u. elim is [
@@ -53,7 +55,8 @@ module _ (ty : Types) (lows : List Degree) (row : RuleRow) (es : List EdgeLabel)
     modest = elim is [ inl old ↦ subst IsModest (sym old) s.modest | inr new ↦ front_modest m e new ];
   }
 
-pub least_is_reserve : (eq : Equation) (lows : List Degree) (row : RuleRow) (es : List EdgeLabel) (d : Degree) → IsLeastSoFar eq.types lows row es row.nodes d → IsUsable es → IsReserve eq lows row es d
+pub least_is_reserve : (eq : Equation) (lows : List Degree) (row : RuleRow) (es : List EdgeLabel) (d : Degree) →
+    IsLeastSoFar eq.types lows row es row.nodes d → IsUsable es → IsReserve eq lows row es d
 least_is_reserve eq lows row es d s u =
     let a = s.attained u in record {
       node = a.0;

@@ -41,7 +41,8 @@ loss_within ty p h small =
     let size = size_most ty p h (omega (arith, small)) in
     record { a = record { low = omega (arith, ints); high = omega (arith, ints) }; b = record { low = omega (arith, ints); high = omega (arith, ints) } }
 
-pub edge_low_within : (ty : Types) (lows : List Degree) (e : EdgeLabel) → AreTypes ty → AreBounded lows → sum e.1 ≤ 64 → AreWithin (edge_low ty lows e) 42000000000
+pub edge_low_within : (ty : Types) (lows : List Degree) (e : EdgeLabel) → AreTypes ty →
+    AreBounded lows → sum e.1 ≤ 64 → AreWithin (edge_low ty lows e) 42000000000
 edge_low_within ty lows e h b small =
     within_more (edge_low ty lows e) (1000000000 + 40960000000) 42000000000
     (within_plus (low_at lows e.0) (derivative_degree_of ty e.1) 1000000000 40960000000 (bounded_within (low_at lows e.0) (b e.0)) (loss_within ty e.1 h small)) (omega arith)
@@ -52,14 +53,16 @@ usable_first e es h = let d = h.derivatives in omega (arith, d)
 pub usable_rest : (e : EdgeLabel) (es : List EdgeLabel) → IsUsable (e ∷ es) → IsUsable es
 usable_rest e es h = let d = h.derivatives in let l = h.edges in record { edges = omega (arith, l); derivatives = omega (arith, d) }
 
-lows_by_length : (ty : Types) (lows : List Degree) (es : List EdgeLabel) → AreTypes ty → AreBounded lows → IsUsable es → AreWithin (lows_of ty lows es) (42000000000 * length es)
+lows_by_length : (ty : Types) (lows : List Degree) (es : List EdgeLabel) → AreTypes ty →
+    AreBounded lows → IsUsable es → AreWithin (lows_of ty lows es) (42000000000 * length es)
 lows_by_length ty lows [] h b u = record { a = record { low = omega (arith, ints); high = omega (arith, ints) }; b = record { low = omega (arith, ints); high = omega (arith, ints) } }
 lows_by_length ty lows (e ∷ es) h b u =
     within_more (lows_of ty lows (e ∷ es)) (42000000000 + 42000000000 * length es) (42000000000 * length (e ∷ es))
     (within_plus (edge_low ty lows e) (lows_of ty lows es) 42000000000 (42000000000 * length es) (edge_low_within ty lows e h b (usable_first e es u)) (lows_by_length ty lows es h b (usable_rest e es u)))
     (omega arith)
 
-pub lows_within : (ty : Types) (lows : List Degree) (es : List EdgeLabel) → AreTypes ty → AreBounded lows → IsUsable es → AreWithin (lows_of ty lows es) 1008000000000
+pub lows_within : (ty : Types) (lows : List Degree) (es : List EdgeLabel) → AreTypes ty →
+    AreBounded lows → IsUsable es → AreWithin (lows_of ty lows es) 1008000000000
 lows_within ty lows es h b u = let l = u.edges in within_more (lows_of ty lows es) (42000000000 * length es) 1008000000000 (lows_by_length ty lows es h b u) (omega (arith, l))
 
 pub type_within : (ty : Types) (k : ℕ) → AreTypes ty → AreWithin (type_degree ty k) 20000000
@@ -85,10 +88,12 @@ low_modest lows k d h e = subst IsModest (sym e) (modest (low_at lows k) 1000000
 pub loss_modest : (ty : Types) (p : List ℕ) (d : Degree) → AreTypes ty → sum p ≤ 64 → d ≡ derivative_degree_of ty p → IsModest d
 loss_modest ty p d h small e = subst IsModest (sym e) (modest (derivative_degree_of ty p) 40960000000 (loss_within ty p h small) (omega arith))
 
-pub edge_low_modest : (ty : Types) (lows : List Degree) (e : EdgeLabel) (d : Degree) → AreTypes ty → AreBounded lows → sum e.1 ≤ 64 → d ≡ edge_low ty lows e → IsModest d
+pub edge_low_modest : (ty : Types) (lows : List Degree) (e : EdgeLabel) (d : Degree) → AreTypes ty →
+    AreBounded lows → sum e.1 ≤ 64 → d ≡ edge_low ty lows e → IsModest d
 edge_low_modest ty lows e d h b small is = subst IsModest (sym is) (modest (edge_low ty lows e) 42000000000 (edge_low_within ty lows e h b small) (omega arith))
 
-pub lows_modest : (ty : Types) (lows : List Degree) (es : List EdgeLabel) (d : Degree) → AreTypes ty → AreBounded lows → IsUsable es → d ≡ lows_of ty lows es → IsModest d
+pub lows_modest : (ty : Types) (lows : List Degree) (es : List EdgeLabel) (d : Degree) →
+    AreTypes ty → AreBounded lows → IsUsable es → d ≡ lows_of ty lows es → IsModest d
 lows_modest ty lows es d h b u is = subst IsModest (sym is) (modest (lows_of ty lows es) 1008000000000 (lows_within ty lows es h b u) (omega arith))
 
 pub type_modest : (ty : Types) (k : ℕ) (d : Degree) → AreTypes ty → d ≡ type_degree ty k → IsModest d
@@ -98,7 +103,8 @@ type_modest ty k d h is = subst IsModest (sym is) (modest (type_degree ty k) 200
 behind : (e : EdgeType) (es : List EdgeType) → take (length (e ∷ es) - 1) (drop 1 (e ∷ es)) ≡ es
 behind e es = let n : length (e ∷ es) - 1 ≡ length es = omega arith in rw n (take-length es)
 
-pub parts_modest : (ty : Types) (lows : List Degree) (edges : List EdgeType) (none : EdgeType) (x y : Degree) → 1 ≤ length edges → AreTypes ty → AreBounded lows → IsUsable (map label edges) →
+pub parts_modest : (ty : Types) (lows : List Degree) (edges : List EdgeType) (none : EdgeType) (x y : Degree) →
+    1 ≤ length edges → AreTypes ty → AreBounded lows → IsUsable (map label edges) →
     x ≡ edge_low ty lows (label (get_or edges 0 none)) → y ≡ lows_of ty lows (map label (take (length edges - 1) (drop 1 edges))) → IsModest x × IsModest y
 parts_modest ty lows [] none x y some h b u is rest = absurd (omega (arith, some))
 parts_modest ty lows (e ∷ es) none x y some h b u is rest =

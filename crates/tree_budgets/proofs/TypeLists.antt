@@ -71,7 +71,8 @@ bounded-set (x ∷ ds) (suc k) d h b zero = h zero
 bounded-set (x ∷ ds) (suc k) d h b (suc l) = bounded-set ds k d (λ m. h (suc m)) b l
 
 -- the bound of a kernel may be set
-pub set_bounds : (ty : Types) (ds : List Degree) (k : ℕ) (d : Degree) → AreTypeBounds ty ds → kind_of ty k ≡ Some Kernel → IsBounded d → AreTypeBounds ty (slice_set ds k d)
+pub set_bounds : (ty : Types) (ds : List Degree) (k : ℕ) (d : Degree) → AreTypeBounds ty ds →
+    kind_of ty k ≡ Some Kernel → IsBounded d → AreTypeBounds ty (slice_set ds k d)
 set_bounds ty ds k d h kernel b = record {
   each = length-set ds k d ∙ h.each;
   bounded = bounded-set ds k d h.bounded b;

@@ -46,7 +46,8 @@ fn regular_low(eq: &Equation, kind: TypeId) -> Degree
 #[tactic(auto, using(crate::proofs::Regular::few_types))]
 fn regular_lows(alloc: Global, eq: &Equation) -> Result<Items<Degree>, AllocError>
     requires { IsEquation eq.now }
-    ensures { IfOk result (λ ds. ds ≡ map (regular_low eq.now) (range_with_len 0 (length eq.now.types.list))) }
+    ensures { IfOk result (λ ds. ds ≡ map (regular_low eq.now)
+        (range_with_len 0 (length eq.now.types.list))) }
 {
     let mut lows = Items::new(alloc);
     for k in 0..eq.types.list.len() {
@@ -119,7 +120,8 @@ fn regular_mosts(
     requires equation { IsEquation eq.now }
     requires a { IsWithin greatest.now.a 40000000 }
     requires b { IsWithin greatest.now.b 40000000 }
-    ensures { IfOk result (λ ds. ds ≡ map (regular_most eq.now greatest.now) (range_with_len 0 (length eq.now.types.list))) }
+    ensures { IfOk result (λ ds. ds ≡ map (regular_most eq.now greatest.now)
+        (range_with_len 0 (length eq.now.types.list))) }
 {
     let mut mosts = Items::new(alloc);
     for k in 0..eq.types.list.len() {
@@ -141,7 +143,8 @@ fn regular_bounds(alloc: Global, eq: &Equation, rule: &Rule) -> Result<Bounds, A
     Ok(Bounds { lows, mosts })
 }
 
-/// Low degrees and budgets of a rule: the least and the greatest degrees that are found, where they are such, and else what the regularities give.
+/// Low degrees and budgets of a rule: the least and the greatest degrees that are found, where they
+/// are such, and else what the regularities give.
 pub(crate) fn make_bounds(alloc: Global, eq: &Equation, rule: &Rule) -> Result<Bounds, AllocError>
     requires equation { IsEquation eq.now }
     requires rule { IsRule eq.now rule.now }

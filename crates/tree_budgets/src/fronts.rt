@@ -15,7 +15,8 @@ use std::cmp::Ordering;
 
 // The edge types in front of `end`, where the edge types end in it.
 fn front<'a>(edges: &'a [EdgeType], end: &[EdgeType]) -> Option<&'a [EdgeType]>
-    ensures { MatchOption result ((front : List EdgeType) → edges.now ≢ front ++ end.now) (λ front. edges.now ≡ front.now ++ end.now) }
+    ensures { MatchOption result ((front : List EdgeType) →
+        edges.now ≢ front ++ end.now) (λ front. edges.now ≡ front.now ++ end.now) }
 {
     edges.strip_suffix(end)
 }
@@ -29,7 +30,8 @@ fn lesser(d: Degree, e: Degree) -> Degree
     if e.order(&d) == Ordering::Less { e } else { d }
 }
 
-/// The least of a degree and the sum of the low degrees of the edges that a usable node type has in front of `end`, if it ends so.
+/// The least of a degree and the sum of the low degrees of the edges that a usable node type has in
+/// front of `end`, if it ends so.
 pub(crate) fn least_with(
     types: &Types,
     lows: &[Degree],
@@ -41,7 +43,8 @@ pub(crate) fn least_with(
     requires lows { AreBounded lows.now }
     ensures lower { IsNotAbove result least }
     ensures node { IsFrontLeast types.now lows.now (map label end.now) result node.now }
-    ensures is { (result ≡ least) ⊎ IsFrontLow types.now lows.now node.now (map label end.now) result }
+    ensures is { (result ≡ least)
+        ⊎ IsFrontLow types.now lows.now node.now (map label end.now) result }
 {
     let edges = node.edges.as_slice();
     if !is_usable(edges) {
@@ -55,7 +58,8 @@ pub(crate) fn least_with(
 
 /// The edge type in front of `end`, where the two are this node type, and it is usable.
 pub(crate) fn extending(node: &NodeType, end: &[EdgeType]) -> Option<EdgeType>
-    ensures { MatchOption result ((e : EdgeType) → IsExtension node.now end.now e → ⊥) (λ e. IsExtension node.now end.now e) }
+    ensures { MatchOption result ((e : EdgeType) → IsExtension node.now end.now e →
+        ⊥) (λ e. IsExtension node.now end.now e) }
 {
     let edges = node.edges.as_slice();
     match front(edges, end) {

@@ -1,4 +1,6 @@
-//! The plan of a rule: bounds of degrees by which its trees of a degree of at most 0 are found.
+//! The plan of a rule: bounds of degrees by which its trees of a degree of at most 0 are found. The
+//! listing needs that the bounds meet certain inequalities, and not how they are found; so they
+//! stand apart.
 #![tactic(auto)]
 
 mod bounds;

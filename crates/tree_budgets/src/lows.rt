@@ -34,7 +34,8 @@ fn brought(types: &Types, lows: &[Degree], kernel: TypeId, node: &NodeType) -> D
     requires types { AreTypes types.now }
     requires lows { AreBounded lows.now }
     requires usable { IsUsable (labels node.now) }
-    ensures { result ≡ degree_plus (type_degree types.now kernel.0) (lows_of types.now lows.now (labels node.now)) }
+    ensures { result ≡ degree_plus (type_degree types.now kernel.0) (lows_of types.now lows.now
+        (labels node.now)) }
 {
     plus(
         &type_degree(types, kernel),
@@ -132,8 +133,10 @@ fn lower_each(eq: &Equation, rule: &Rule, lows: &mut Items<Degree>)
     }
 }
 
-/// For each type the least degree of an edge of it with what stands above it, as far as it is found in as many rounds as there are kernels. More are not needed: a
-/// tree in which a kernel stands twice on a path from the root is not the least, since the part above the second is less than that above the first.
+/// For each type the least degree of an edge of it with what stands above it, as far as it is found
+/// in as many rounds as there are kernels. More are not needed: a tree in which a kernel stands
+/// twice on a path from the root is not the least, since the part above the second is less than
+/// that above the first.
 pub(crate) fn least_degrees(
     alloc: Global,
     eq: &Equation,

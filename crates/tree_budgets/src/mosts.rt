@@ -23,14 +23,17 @@ fn fits(most: &Degree, low: &Degree, next: &Degree, degree: &Degree, total: &Deg
     requires next { IsBounded next.now }
     requires degree { IsBounded degree.now }
     requires total { IsModest total.now }
-    ensures { IsTrue result → IsNotAbove (degree_plus most.now low.now) (degree_plus (degree_plus next.now degree.now) total.now) }
+    ensures { IsTrue result →
+        IsNotAbove (degree_plus most.now low.now) (degree_plus (degree_plus next.now degree.now)
+        total.now) }
 {
     let left = most.plus(low);
     let right = next.plus(degree).plus(total);
     left.order(&right) != Ordering::Greater
 }
 
-// Whether what edges of a node type leave for a kernel edge of it is at most the most of its kernel.
+// Whether what edges of a node type leave for a kernel edge of it is at most the most of its
+// kernel.
 fn is_enough(
     types: &Types,
     lows: &[Degree],
@@ -43,7 +46,8 @@ fn is_enough(
     requires lows { AreBounded lows.now }
     requires mosts { AreBounded mosts.now }
     requires usable { IsUsable (labels node.now) }
-    ensures { IsTrue result → IsEnough types.now lows.now mosts.now kernel.0 node.now.edges edge.now }
+    ensures { IsTrue result →
+        IsEnough types.now lows.now mosts.now kernel.0 node.now.edges edge.now }
 {
     if is_kernel_type(types, edge.kind) {
         let total = lows_of(types, lows, node.edges.as_slice());
@@ -194,8 +198,9 @@ fn raise_each(types: &Types, lows: &[Degree], rule: &Rule, mosts: &mut Items<Deg
     }
 }
 
-/// For each kernel the greatest degree of what stands above its edges in a tree of a degree of at most 0, as far as it is found in as many rounds as there are
-/// kernels: what is left for a kernel falls where it stands again further from the root.
+/// For each kernel the greatest degree of what stands above its edges in a tree of a degree of at
+/// most 0, as far as it is found in as many rounds as there are kernels: what is left for a kernel
+/// falls where it stands again further from the root.
 pub(crate) fn greatest_degrees(
     alloc: Global,
     types: &Types,

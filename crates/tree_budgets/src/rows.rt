@@ -36,7 +36,8 @@ fn extend(
 
 // The extensions of a node type in its row.
 fn extensions(alloc: Global, row: &RuleRow, node: &NodeType) -> Result<Items<Extension>, AllocError>
-    ensures { IfOk result (λ xs. AreExtensions row.now.nodes node.now.edges (length row.now.nodes) xs) }
+    ensures { IfOk result (λ xs. AreExtensions row.now.nodes node.now.edges (length row.now.nodes)
+        xs) }
 {
     let mut extensions = Items::new(alloc);
     for i in 0..row.nodes.len() {
@@ -50,7 +51,8 @@ fn reserve(eq: &Equation, lows: &[Degree], row: &RuleRow, node: &NodeType) -> De
     requires equation { IsEquation eq.now }
     requires lows { AreBounded lows.now }
     requires node { IsIn node.now row.now.nodes }
-    ensures reserve { IsUsable (labels node.now) → IsReserve eq.now lows.now row.now (labels node.now) result }
+    ensures reserve { IsUsable (labels node.now) →
+        IsReserve eq.now lows.now row.now (labels node.now) result }
     ensures modest { IsModest result }
 {
     let mut least = NO_DEGREE;

@@ -1,4 +1,5 @@
--- Greater shifts add no term: the sums over the cuttings do not depend on the bound, as soon as it is that of the definition.
+-- Greater shifts add no term: the sums over the cuttings do not depend on the bound, as soon as it
+-- is that of the definition.
 use Rattle.std.proofs.Common.{◌≡◌, ℕ, zero, suc, ◌+◌, ◌*◌, ◌<◌, inl, inr, pos, neg_ℤ, ◌≤ℤ◌, ◌<ℤ◌, Bool, true, false, not, ◌||◌, List, [], ◌∷◌, map, flat_map, filter, refl, sym, ap, ◌∙◌, arith, unsigned_abs}
 use Rattle.std.specs.List.{AllByRecursion}
 use Rattle.std.proofs.lemmas.Int.{ints}
@@ -36,7 +37,9 @@ down_none f n (suc j) h =
     ap (λ (i : ℕ). total f (down_from i)) e ∙ omega (arith, z, rest)
 
 -- sums over shifts, where the summand is 0 beyond n
-pub shifts_none : (d n j : ℕ) (p : List ℕ) (g : List ℕ → ℕ) → ((s : List ℕ) → IsBeyond n d s → g s ≡ 0) → total g (shifts (each_direction d (n + j)) p) ≡ total g (shifts (each_direction d n) p)
+pub shifts_none : (d n j : ℕ) (p : List ℕ) (g : List ℕ → ℕ) →
+    ((s : List ℕ) → IsBeyond n d s → g s ≡ 0) →
+    total g (shifts (each_direction d (n + j)) p) ≡ total g (shifts (each_direction d n) p)
 shifts_none zero n j p g h = refl
 shifts_none (suc d) n j [] g h = refl
 shifts_none (suc d) n j (x ∷ p) g h =
@@ -54,7 +57,9 @@ all_true : {X : Type 0} (xs : List X) → AllByRecursion (λ x. Unit {0}) xs
 all_true [] = tt
 all_true (x ∷ xs) = (tt, all_true xs)
 
-pub all_made : (P Q R : Entry → Type 0) (f : Entry → Entry → Entry) → ((x y : Entry) → P x → Q y → R (f x y)) → (xs ys : List Entry) → AllByRecursion P xs → AllByRecursion Q ys → AllByRecursion R (pairs f xs ys)
+pub all_made : (P Q R : Entry → Type 0) (f : Entry → Entry → Entry) →
+    ((x y : Entry) → P x → Q y → R (f x y)) → (xs ys : List Entry) → AllByRecursion P xs →
+    AllByRecursion Q ys → AllByRecursion R (pairs f xs ys)
 all_made P Q R f h [] ys a b = tt
 all_made P Q R f h (x ∷ xs) ys a b = all_append R (map (f x) ys) (pairs f xs ys) (all_mapped Q R (f x) ys (λ y q. h x y a.0 q) b) (all_made P Q R f h xs ys a.1 b)
 
@@ -92,7 +97,8 @@ module _ (ty : Types) (good : Plain → Bool) where
   abbrev closed : List ℕ → Plain → List Entry
   closed w c = good_closed good (closed_from (good_entries good w false c) (good_entries good w true c))
 
-  total_closed : (w : List ℕ) (c : Plain) (h : Entry → ℕ) → total h (closed w c) ≡ total (kept h) (good_entries good w false c) + total (edged h) (good_entries good w true c)
+  total_closed : (w : List ℕ) (c : Plain) (h : Entry → ℕ) →
+      total h (closed w c) ≡ total (kept h) (good_entries good w false c) + total (edged h) (good_entries good w true c)
   total_closed w c h =
       let idle = good_entries good w false c in
       let touched = good_entries good w true c in

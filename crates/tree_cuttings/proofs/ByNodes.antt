@@ -1,4 +1,5 @@
--- The definition by nodes and edges, in the words of the proofs: touched nodes, components, quotient and splitting coefficient of a cutting that is read down the tree.
+-- The definition by nodes and edges, in the words of the proofs: touched nodes, components,
+-- quotient and splitting coefficient of a cutting that is read down the tree.
 use Rattle.std.proofs.Common.{◌≡◌, ℕ, ◌*◌, ◌==◌, Bool, true, false, cond, not, ◌&&◌, ◌||◌, List, [], ◌∷◌, ◌++◌, map, filter, refl, ap, ◌∙◌, arith}
 use Rattle.std.specs.List.{list_all}
 use Rattle.exact_sums.specs.Sums.{product_over}
@@ -106,7 +107,8 @@ product-times f g [] = refl
 product-times f g (x ∷ xs) = let e = ap (λ (n : ℕ). f x * g x * n) (product-times f g xs) in omega (arith, e)
 
 -- a product over the nodes into which no edge of the set goes
-lowest_product : (f : Node → ℕ) (es : List Marked) → product_over f (filter (λ v. not v.entered) (map node_above es)) ≡ product_over (λ e. cond e.inside 1 (f (node_above e))) es
+lowest_product : (f : Node → ℕ) (es : List Marked) →
+    product_over f (filter (λ v. not v.entered) (map node_above es)) ≡ product_over (λ e. cond e.inside 1 (f (node_above e))) es
 lowest_product f [] = refl
 lowest_product f (e ∷ es) =
     elim e.inside as (λ b. product_over f (cond (not b) (node_above e ∷ filter (λ v. not v.entered) (map node_above es)) (filter (λ v. not v.entered) (map node_above es))) ≡ cond b 1 (f (node_above e)) * product_over (λ d. cond d.inside 1 (f (node_above d))) es) [

@@ -117,7 +117,8 @@ scaled_beyond n (suc d) (c ∷ ss) (x ∷ s) l a (inl h) =
     omega (arith, m, h)
 scaled_beyond n (suc d) (c ∷ ss) (x ∷ s) l a (inr h) = let rest = scaled_beyond n d ss s (omega (arith, l)) a.1 h in omega (arith, rest)
 
-pub size_beyond : (ty : Types) → IsScaling ty.dims ty.scaling → (n : ℕ) (s : List ℕ) → IsBeyond n ty.dims s → unsigned_abs ty.units.den * suc n ≤ size_in_units ty s
+pub size_beyond : (ty : Types) → IsScaling ty.dims ty.scaling → (n : ℕ) (s : List ℕ) →
+    IsBeyond n ty.dims s → unsigned_abs ty.units.den * suc n ≤ size_in_units ty s
 size_beyond ty h n s b =
     let five = h.entries in
     let most = h.most in

@@ -11,7 +11,8 @@ use Rattle.tree_cuttings.proofs.ByNumbers.{parts_of, numbered_component, numbere
 use Rattle.tree_cuttings.proofs.Images.{parts_sum}
 use Rattle.tree_cuttings.proofs.Rows.{test_yes, test_no, Apart, apart-append, apart_rows, touches, any_apart, any_first, any_own, outer, outer_apart, outer_first, parts_own, ins, tree_skip, tree_first, all_apart_rows, rerooted, rerooted-raised, rerooted-self}
 
--- the rows of a part of the tree stand in the whole list, and no row before or after it speaks of its nodes
+-- the rows of a part of the tree stand in the whole list, and no row before or after it speaks of
+-- its nodes
 pub record IsAround (whole before after : List Marked) (r next : ℕ) (m : CutTree) : Type 0 where
   pub whole_is : whole ≡ before ++ (rows_from r next m ++ after)
   pub apart_before : (j : ℕ) → next ≤ j → j < next + cut_size m → Apart j before
@@ -85,7 +86,9 @@ module _ (whole before after : List Marked) (r next : ℕ) (b : Bool) (s : List 
   pub root_in : plus_all (parts_of whole next (taken_of c)) ≡ root_of (root_component c)
   root_in = ap plus_all parts_in ∙ parts_sum c
 
-pub own_tree : (whole before after : List Marked) (r next : ℕ) (m : CutTree) (n : List ℕ) → r < next → IsAround whole before after r next m → tree_at r n (ins whole (rows_from r next m)) ≡ rerooted n (root_component m)
+pub own_tree : (whole before after : List Marked) (r next : ℕ) (m : CutTree) (n : List ℕ) →
+    r < next → IsAround whole before after r next m →
+    tree_at r n (ins whole (rows_from r next m)) ≡ rerooted n (root_component m)
 own_tree whole before after r next (node a l) n low around = refl
 own_tree whole before after r next (edge true s k p c m) n low around =
     let rows_c = rows_from next (1 + next) c in
@@ -113,7 +116,9 @@ own_tree whole before after r next (edge false s k p c m) n low around =
 abbrev tree_in : List Marked → ℕ → List ℕ → Plain
 tree_in whole j a = tree_at j (plus_all (parts_of whole j a)) (ins whole whole)
 
-pub component_in : (whole before after : List Marked) (r next : ℕ) (b : Bool) (s : List ℕ) (k : ℕ) (p : List ℕ) (c m : CutTree) → r < next → IsAround whole before after r next (edge b s k p c m) → tree_in whole next (taken_of c) ≡ root_component c
+pub component_in : (whole before after : List Marked) (r next : ℕ) (b : Bool) (s : List ℕ) (k : ℕ) (p : List ℕ) (c m : CutTree) →
+    r < next → IsAround whole before after r next (edge b s k p c m) →
+    tree_in whole next (taken_of c) ≡ root_component c
 component_in whole before after r next b s k p c m low around =
     let rows_c = rows_from next (1 + next) c in
     let rows_m = rows_from r (1 + next + cut_size c) m in
@@ -149,7 +154,9 @@ trees_in-append forced whole xs ys =
     ap (map (λ (e : Marked). tree_in whole e.number e.taken)) (filter-append (is_root forced whole) xs ys)
     ∙ map-append (λ e. tree_in whole e.number e.taken) (filter (is_root forced whole) xs) (filter (is_root forced whole) ys)
 
-pub trees_are : (forced : Bool) (whole before after : List Marked) (r next : ℕ) (m : CutTree) → r < next → IsAround whole before after r next m → trees_in forced whole (rows_from r next m) ≡ components_above m
+pub trees_are : (forced : Bool) (whole before after : List Marked) (r next : ℕ) (m : CutTree) →
+    r < next → IsAround whole before after r next m →
+    trees_in forced whole (rows_from r next m) ≡ components_above m
 trees_are forced whole before after r next (node a l) low around = refl
 trees_are forced whole before after r next (edge true s k p c m) low around =
     let rows_c = rows_from next (1 + next) c in

@@ -28,7 +28,8 @@ shuffled false false false a b y = refl
 abbrev row_test : Bool → List Marked → Marked → Bool
 row_test forced whole e = (is_touched forced whole e.number || is_zero e.taken) && ((is_touched forced whole e.parent && not e.inside) || is_zero e.shift)
 
-tests_are : (forced touched : Bool) (whole before after : List Marked) (r next : ℕ) (m : CutTree) → r < next → IsAround whole before after r next m → is_touched forced whole r ≡ touched →
+tests_are : (forced touched : Bool) (whole before after : List Marked) (r next : ℕ) (m : CutTree) →
+    r < next → IsAround whole before after r next m → is_touched forced whole r ≡ touched →
     list_all (row_test forced whole) (rows_from r next m) && (touched || is_zero (taken_of m)) ≡ fits touched m
 tests_are forced touched whole before after r next (node a l) low around t = refl
 tests_are forced touched whole before after r next (edge b s k p c m) low around t =

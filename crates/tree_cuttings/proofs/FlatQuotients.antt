@@ -85,7 +85,9 @@ flipped : (a b : ℕ) → a ≢ b → (b == a) ≡ false
 flipped a b h = test_no b a (λ e. h (sym e))
 
 -- no node of a part of the tree is of a class of other nodes
-none_rows : (whole before after : List Marked) (r next q j : ℕ) (m : CutTree) → r < next → IsAround whole before after r next m → base before r ≡ q → j ≢ q → (j < next) ⊎ (next + cut_size m ≤ j) → filter (in_class whole j) (rows_from r next m) ≡ []
+none_rows : (whole before after : List Marked) (r next q j : ℕ) (m : CutTree) → r < next →
+    IsAround whole before after r next m → base before r ≡ q → j ≢ q →
+    (j < next) ⊎ (next + cut_size m ≤ j) → filter (in_class whole j) (rows_from r next m) ≡ []
 none_rows whole before after r next q j (node a l) low around t h d = refl
 none_rows whole before after r next q j (edge b s k p c m) low around t h d =
     let rows_c = rows_from next (1 + next) c in
@@ -102,7 +104,9 @@ none_rows whole before after r next q j (edge b s k p c m) low around t h d =
     ) refl)
 
 -- what is left in the class of the root
-own_lefts : (whole before after : List Marked) (r next q : ℕ) (m : CutTree) → r < next → q < next → IsAround whole before after r next m → base before r ≡ q → map (λ (e : Marked). e.left) (filter (in_class whole q) (rows_from r next m)) ≡ lefts_above m
+own_lefts : (whole before after : List Marked) (r next q : ℕ) (m : CutTree) → r < next → q < next →
+    IsAround whole before after r next m → base before r ≡ q →
+    map (λ (e : Marked). e.left) (filter (in_class whole q) (rows_from r next m)) ≡ lefts_above m
 own_lefts whole before after r next q (node a l) low under around t = refl
 own_lefts whole before after r next q (edge b s k p c m) low under around t =
     let rows_c = rows_from next (1 + next) c in
@@ -190,7 +194,8 @@ module _ (x : Cutting) (before after : List Marked) (r next : ℕ) (b : Bool) (s
       }
 
 -- the parts of the decoration of a root_component's node
-pub lefts_in : (x : Cutting) (before after : List Marked) (r next : ℕ) (s : List ℕ) (k : ℕ) (p : List ℕ) (c m : CutTree) (low : r < next) (around : IsAround x.edges before after r next (edge false s k p c m)) (q : ℕ) (classed : IsClassed x before after r next q (edge false s k p c m)) → lefts_of x next ≡ lefts c
+pub lefts_in : (x : Cutting) (before after : List Marked) (r next : ℕ) (s : List ℕ) (k : ℕ) (p : List ℕ) (c m : CutTree) (low : r < next) (around : IsAround x.edges before after r next (edge false s k p c m)) (q : ℕ) (classed : IsClassed x before after r next q (edge false s k p c m)) →
+    lefts_of x next ≡ lefts c
 lefts_in x before after r next s k p c m low around q classed =
     let rows_c = rows_from next (1 + next) c in
     let rows_m = rows_from r (1 + next + cut_size c) m in
@@ -237,7 +242,9 @@ outs-append x xs ys =
     ap (map (outer_of x)) (filter-append (λ (e : Marked). not e.inside) xs ys)
     ∙ map-append (outer_of x) (filter (λ (e : Marked). not e.inside) xs) (filter (λ (e : Marked). not e.inside) ys)
 
-links_apart : (x : Cutting) (before after : List Marked) (r next q j : ℕ) (m : CutTree) → r < next → IsAround x.edges before after r next m → IsClassed x before after r next q m → j ≢ q → (j < next) ⊎ (next + cut_size m ≤ j) → LinkApart j (outs x (rows_from r next m))
+links_apart : (x : Cutting) (before after : List Marked) (r next q j : ℕ) (m : CutTree) → r < next →
+    IsAround x.edges before after r next m → IsClassed x before after r next q m → j ≢ q →
+    (j < next) ⊎ (next + cut_size m ≤ j) → LinkApart j (outs x (rows_from r next m))
 links_apart x before after r next q j (node a l) low around classed h d = tt
 links_apart x before after r next q j (edge b s k p c m) low around classed h d =
     let rows_c = rows_from next (1 + next) c in
@@ -270,7 +277,8 @@ pub onto-self : (t : Plain) → onto t (bare (root_of t)) ≡ t
 onto-self (bare n) = refl
 onto-self (graft k p c t) = ap (graft k p c) (onto-self t)
 
-quotient_in : (x : Cutting) (before after : List Marked) (r next q : ℕ) (m : CutTree) (n : List ℕ) (ys : List Link) → r < next → IsAround x.edges before after r next m → IsClassed x before after r next q m →
+quotient_in : (x : Cutting) (before after : List Marked) (r next q : ℕ) (m : CutTree) (n : List ℕ) (ys : List Link) →
+    r < next → IsAround x.edges before after r next m → IsClassed x before after r next q m →
     ((j : ℕ) → next ≤ j → j < next + cut_size m → LinkApart j ys) → tree_at q n (outs x (rows_from r next m) ++ ys) ≡ onto (contracted m) (tree_at q n ys)
 quotient_in x before after r next q (node a l) n ys low around classed h = refl
 quotient_in x before after r next q (edge true s k p c m) n ys low around classed h =
@@ -322,7 +330,9 @@ product_over-append f (x ∷ xs) ys = rw (product_over-append f xs ys) (omega ar
 abbrev row_coefficient : Cutting → Marked → ℕ
 row_coefficient x e = multinomial_of (parts_of x.edges e.number e.taken) * cond e.inside 1 (multinomial_of (lefts_of x e.number))
 
-coefficients_in : (x : Cutting) (before after : List Marked) (r next q : ℕ) (m : CutTree) → r < next → IsAround x.edges before after r next m → IsClassed x before after r next q m → product_over (row_coefficient x) (rows_from r next m) ≡ coefficient_above m
+coefficients_in : (x : Cutting) (before after : List Marked) (r next q : ℕ) (m : CutTree) →
+    r < next → IsAround x.edges before after r next m → IsClassed x before after r next q m →
+    product_over (row_coefficient x) (rows_from r next m) ≡ coefficient_above m
 coefficients_in x before after r next q (node a l) low around classed = refl
 coefficients_in x before after r next q (edge b s k p c m) low around classed =
     let rows_c = rows_from next (1 + next) c in

@@ -27,8 +27,10 @@ gate_turned false false n = refl
 abbrev IsGood : (Plain → Bool) → List ℕ → Plain → Type 0
 IsGood good w t = (b : Bool) (h : Entry → ℕ) → total (tested good h) (entries w b t) ≡ total h (good_entries good w b t)
 
--- one edge more: the cut_components above are those of the child, tested by `first`, and those of the rest
-row_good : (good : Plain → Bool) (w : List ℕ) (t : Plain) (d : Bool) (h : Entry → ℕ) (f : Entry → Entry → Entry) (first : Entry → List Plain) → IsGood good w t → ((x y : Entry) → (f x y).above ≡ first x ++ y.above) → (x : Entry) →
+-- one edge more: the cut_components above are those of the child, tested by `first`, and those of
+-- the rest
+row_good : (good : Plain → Bool) (w : List ℕ) (t : Plain) (d : Bool) (h : Entry → ℕ) (f : Entry → Entry → Entry) (first : Entry → List Plain) →
+    IsGood good w t → ((x y : Entry) → (f x y).above ≡ first x ++ y.above) → (x : Entry) →
     against (tested good h) f (entries w d t) x ≡ counted_if (list_all good (first x)) (against h f (good_entries good w d t) x)
 row_good good w t d h f first of_t above x =
     total_ext (λ y. tested good h (f x y)) (λ y. counted_if (list_all good (first x)) (tested good (λ e. h (f x e)) y)) (entries w d t)
@@ -50,7 +52,8 @@ inside_good good w k p c t h of_c of_t =
 abbrev root_good : (Plain → Bool) → Entry → Bool
 root_good good e = not (has_edge e.part) || good e.part
 
-forest_good : (good : Plain → Bool) (e : Entry) (n : ℕ) → counted_if (list_all good (forest_of e)) n ≡ counted_if (list_all good e.above) (counted_if (root_good good e) n)
+forest_good : (good : Plain → Bool) (e : Entry) (n : ℕ) →
+    counted_if (list_all good (forest_of e)) n ≡ counted_if (list_all good e.above) (counted_if (root_good good e) n)
 forest_good good e n =
     elim (has_edge e.part) as (λ b. counted_if (list_all good (cond b (e.part ∷ e.above) e.above)) n ≡ counted_if (list_all good e.above) (counted_if (not b || good e.part) n)) [
       | true ↦ counted_if-and (good e.part) (list_all good e.above) n ∙ gate_turned (good e.part) (list_all good e.above) n
@@ -100,7 +103,8 @@ good_is good w (graft k p c t) true h =
     ∙ omega (arith, inside, outside, total-append h (pairs (with_inside k p) (good_entries good w true c) (good_entries good w true t)) (flat_map (λ s. pairs (with_outside s k p) new (good_entries good w true t)) (shifts w p)))
 good_is good w (graft k p c t) false h = outside_good good w k (zeros p) p c t false h (good_is good w c) (good_is good w t)
 
--- the sum over the cuttings whose components are all good is a sum over the entries of the recursion that tests at closing
+-- the sum over the cuttings whose components are all good is a sum over the entries of the
+-- recursion that tests at closing
 pub cut_sum_is_good : (w : List ℕ) (good : Plain → Bool) (test : List Plain → Plain → Bool) (t : Plain) →
     cut_sum w false (λ fs q. list_all good fs && test fs q) t
     ≡ total (λ e. counted_if (test (forest_of e) e.quotient) e.coefficient) (good_closed good (closed_from (good_entries good w false t) (good_entries good w true t)))

@@ -1,4 +1,5 @@
--- What a cutting gives, told apart at the first edge of the root; the entries are what all cut_trees give.
+-- What a cutting gives, told apart at the first edge of the root; the entries are what all
+-- cut_trees give.
 use Rattle.std.proofs.Common.{◌≡◌, ℕ, ◌*◌, Bool, true, false, cond, List, [], ◌∷◌, ◌++◌, map, flat_map, filter, refl, sym, ap, ◌∙◌, arith}
 use Rattle.plain_trees.specs.Plain.{Plain, bare, graft, root_of}
 use Rattle.tree_cuttings.specs.Roots.{raised, joined, has_edge}
@@ -102,11 +103,13 @@ IsListed w t = (b : Bool) (h : Entry → ℕ) → sweep w b t (λ m. h (entry_of
 abbrev Fits : (CutTree → CutTree → CutTree) → (Entry → Entry → Entry) → Type 0
 Fits e f = (x y : CutTree) → entry_of (e x y) ≡ f (entry_of x) (entry_of y)
 
-row_of : (w : List ℕ) (t : Plain) (d : Bool) (h : Entry → ℕ) (e : CutTree → CutTree → CutTree) (f : Entry → Entry → Entry) → Fits e f → IsListed w t → (x : CutTree) →
+row_of : (w : List ℕ) (t : Plain) (d : Bool) (h : Entry → ℕ) (e : CutTree → CutTree → CutTree) (f : Entry → Entry → Entry) →
+    Fits e f → IsListed w t → (x : CutTree) →
     sweep w d t (λ y. h (entry_of (e x y))) ≡ against h f (entries w d t) (entry_of x)
 row_of w t d h e f same of_t x = sweep_ext w d t (λ y. h (entry_of (e x y))) (λ y. h (f (entry_of x) (entry_of y))) (λ y. ap h (same x y)) ∙ of_t d (λ y. h (f (entry_of x) y))
 
-pairs_are : (w : List ℕ) (c t : Plain) (b d : Bool) (h : Entry → ℕ) (e : CutTree → CutTree → CutTree) (f : Entry → Entry → Entry) → Fits e f → IsListed w c → IsListed w t →
+pairs_are : (w : List ℕ) (c t : Plain) (b d : Bool) (h : Entry → ℕ) (e : CutTree → CutTree → CutTree) (f : Entry → Entry → Entry) →
+    Fits e f → IsListed w c → IsListed w t →
     sweep w b c (λ x. sweep w d t (λ y. h (entry_of (e x y)))) ≡ total h (pairs f (entries w b c) (entries w d t))
 pairs_are w c t b d h e f same of_c of_t =
     sweep_ext w b c (λ x. sweep w d t (λ y. h (entry_of (e x y)))) (λ x. against h f (entries w d t) (entry_of x)) (row_of w t d h e f same of_t)
@@ -114,7 +117,8 @@ pairs_are w c t b d h e f same of_c of_t =
     ∙ sym (total-pairs h f (entries w b c) (entries w d t))
 
 -- a sum over the closed entries
-closed_listed : (w : List ℕ) (c : Plain) (g : Entry → ℕ) → IsListed w c → closed_sum w c (λ m. g (entry_of m)) ≡ total g (closed_from (entries w false c) (entries w true c))
+closed_listed : (w : List ℕ) (c : Plain) (g : Entry → ℕ) → IsListed w c →
+    closed_sum w c (λ m. g (entry_of m)) ≡ total g (closed_from (entries w false c) (entries w true c))
 closed_listed w c g of_c =
     let idle = of_c false g in
     let touched = sweep_ext w true c (λ m. counted_if (leaves m) (g (entry_of m))) (λ m. counted_if (has_edge (root_component m)) (g (entry_of m))) (λ m. ap (λ b. counted_if b (g (entry_of m))) (sym (has_edge-root_component m)))
@@ -126,7 +130,8 @@ pub closed_ext : (w : List ℕ) (c : Plain) (f g : CutTree → ℕ) → ((m : Cu
 closed_ext w c f g e =
     omega (arith, sweep_ext w false c f g e, sweep_ext w true c (λ m. counted_if (leaves m) (f m)) (λ m. counted_if (leaves m) (g m)) (λ m. ap (λ n. counted_if (leaves m) n) (e m)))
 
-closed_pairs : (w : List ℕ) (c t : Plain) (d : Bool) (h : Entry → ℕ) (e : CutTree → CutTree → CutTree) (f : Entry → Entry → Entry) → Fits e f → IsListed w c → IsListed w t →
+closed_pairs : (w : List ℕ) (c t : Plain) (d : Bool) (h : Entry → ℕ) (e : CutTree → CutTree → CutTree) (f : Entry → Entry → Entry) →
+    Fits e f → IsListed w c → IsListed w t →
     closed_sum w c (λ x. sweep w d t (λ y. h (entry_of (e x y)))) ≡ total h (pairs f (closed_from (entries w false c) (entries w true c)) (entries w d t))
 closed_pairs w c t d h e f same of_c of_t =
     closed_ext w c (λ x. sweep w d t (λ y. h (entry_of (e x y)))) (λ x. against h f (entries w d t) (entry_of x)) (row_of w t d h e f same of_t)
@@ -150,7 +155,8 @@ listed w (graft k p c t) false h =
     closed_pairs w c t false h (edge false (zeros p) k p) (with_outside (zeros p) k p) (entry_outside (zeros p) k p) (listed w c) (listed w t)
 
 -- the entries of a tree are what its cut_trees give
-pub entries_are : (w : List ℕ) (t : Plain) (h : Entry → ℕ) → total (λ m. h (entry_of m)) (cut_trees w false t) ≡ total h (closed_from (entries w false t) (entries w true t))
+pub entries_are : (w : List ℕ) (t : Plain) (h : Entry → ℕ) →
+    total (λ m. h (entry_of m)) (cut_trees w false t) ≡ total h (closed_from (entries w false t) (entries w true t))
 entries_are w t h = closed_is w t (λ m. h (entry_of m)) ∙ closed_listed w t h (listed w t)
 
 -- the cut_sum of what passes a test

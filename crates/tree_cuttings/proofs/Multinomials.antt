@@ -34,7 +34,8 @@ pub choose-self : (m : List ℕ) → choose m m ≡ 1
 choose-self [] = refl
 choose-self (x ∷ m) = rw (binomial-self x, choose-self m) refl
 
-pub choose_three : (m x y : List ℕ) → choose (plus_of m (plus_of x y)) m * choose (plus_of x y) x ≡ choose (plus_of m x) m * choose (plus_of (plus_of m x) y) (plus_of m x)
+pub choose_three : (m x y : List ℕ) →
+    choose (plus_of m (plus_of x y)) m * choose (plus_of x y) x ≡ choose (plus_of m x) m * choose (plus_of (plus_of m x) y) (plus_of m x)
 choose_three [] x y = refl
 choose_three (a ∷ m) [] y = rw (choose-self m, binomial-self a) (omega arith)
 choose_three (a ∷ m) (b ∷ x) [] = rw (choose-self x, choose-self (plus_of m x), binomial-self b, binomial-self (a + b)) (omega arith)
@@ -48,7 +49,8 @@ choose_three (a ∷ m) (b ∷ x) (c ∷ y) =
     )
 
 -- the multinomial_of of two lists of parts
-pub multinomial_of-append : (xs ys : List (List ℕ)) → multinomial_of (xs ++ ys) ≡ multinomial_of xs * multinomial_of ys * choose (plus_of (plus_all xs) (plus_all ys)) (plus_all xs)
+pub multinomial_of-append : (xs ys : List (List ℕ)) →
+    multinomial_of (xs ++ ys) ≡ multinomial_of xs * multinomial_of ys * choose (plus_of (plus_all xs) (plus_all ys)) (plus_all xs)
 multinomial_of-append [] ys = omega arith
 multinomial_of-append (m ∷ xs) ys =
     let x = plus_all xs in

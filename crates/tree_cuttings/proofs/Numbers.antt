@@ -12,12 +12,14 @@ use Rattle.tree_cuttings.proofs.ByNumbers.{cut_size, rows_from, flat_of}
 use Rattle.exact_sums.proofs.SumLaws.{total-map, total-flat_map, total_ext, total-swap}
 use Rattle.tree_cuttings.proofs.Split.{block, total-cut_markings}
 
-total-choices_cons : {X Y : Type 0} (g : List Y → ℕ) (f : X → List Y) (x : X) (xs : List X) → total g (choices f (x ∷ xs)) ≡ total (λ y. total (λ ys. g (y ∷ ys)) (choices f xs)) (f x)
+total-choices_cons : {X Y : Type 0} (g : List Y → ℕ) (f : X → List Y) (x : X) (xs : List X) →
+    total g (choices f (x ∷ xs)) ≡ total (λ y. total (λ ys. g (y ∷ ys)) (choices f xs)) (f x)
 total-choices_cons g f x xs =
     total-flat_map g (λ y. map (λ ys. y ∷ ys) (choices f xs)) (f x)
     ∙ total_ext (λ y. total g (map (λ ys. y ∷ ys) (choices f xs))) (λ y. total (λ ys. g (y ∷ ys)) (choices f xs)) (f x) (λ y. total-map g (λ ys. y ∷ ys) (choices f xs))
 
-pub total-choices_append : {X Y : Type 0} (g : List Y → ℕ) (f : X → List Y) (xs zs : List X) → total g (choices f (xs ++ zs)) ≡ total (λ ys. total (λ us. g (ys ++ us)) (choices f zs)) (choices f xs)
+pub total-choices_append : {X Y : Type 0} (g : List Y → ℕ) (f : X → List Y) (xs zs : List X) →
+    total g (choices f (xs ++ zs)) ≡ total (λ ys. total (λ us. g (ys ++ us)) (choices f zs)) (choices f xs)
 total-choices_append g f [] zs = omega arith
 total-choices_append g f (x ∷ xs) zs =
     total-choices_cons g f x (xs ++ zs)

@@ -41,7 +41,8 @@ pub all_map : {X Y : Type 0} (P : Y → Type 0) (f : X → Y) (xs : List X) → 
 all_map P f [] h = tt
 all_map P f (x ∷ xs) h = (h x, all_map P f xs h)
 
-pub all_mapped : {X Y : Type 0} (P : X → Type 0) (Q : Y → Type 0) (f : X → Y) (xs : List X) → ((x : X) → P x → Q (f x)) → AllByRecursion P xs → AllByRecursion Q (map f xs)
+pub all_mapped : {X Y : Type 0} (P : X → Type 0) (Q : Y → Type 0) (f : X → Y) (xs : List X) →
+    ((x : X) → P x → Q (f x)) → AllByRecursion P xs → AllByRecursion Q (map f xs)
 all_mapped P Q f [] h a = tt
 all_mapped P Q f (x ∷ xs) h a = (h x a.0, all_mapped P Q f xs h a.1)
 
@@ -53,7 +54,9 @@ pub all_filter : {X : Type 0} (P : X → Type 0) (p : X → Bool) (xs : List X) 
 all_filter P p [] a = tt
 all_filter P p (x ∷ xs) a = elim (p x) as (λ b. AllByRecursion P (cond b (x ∷ filter p xs) (filter p xs))) [ true ↦ (a.0, all_filter P p xs a.1) | false ↦ all_filter P p xs a.1 ]
 
-all_pairs : (f : Entry → Entry → Entry) → ((x y : Entry) → IsPositive x → IsPositive y → IsPositive (f x y)) → (xs ys : List Entry) → AllByRecursion IsPositive xs → AllByRecursion IsPositive ys →
+all_pairs : (f : Entry → Entry → Entry) →
+    ((x y : Entry) → IsPositive x → IsPositive y → IsPositive (f x y)) → (xs ys : List Entry) →
+    AllByRecursion IsPositive xs → AllByRecursion IsPositive ys →
     AllByRecursion IsPositive (pairs f xs ys)
 all_pairs f h [] ys a b = tt
 all_pairs f h (x ∷ xs) ys a b = all_append IsPositive (map (f x) ys) (pairs f xs ys) (all_mapped IsPositive IsPositive (f x) ys (λ y q. h x y a.0 q) b) (all_pairs f h xs ys a.1 b)
@@ -70,7 +73,8 @@ one = omega arith
 closed_pos : (xs ys : List Entry) → AllByRecursion IsPositive xs → AllByRecursion IsPositive ys → AllByRecursion IsPositive (closed_from xs ys)
 closed_pos xs ys a b = all_append IsPositive xs _ a (all_filter IsPositive _ ys b)
 
-good_closed_pos : (good : Plain → Bool) (xs ys : List Entry) → AllByRecursion IsPositive xs → AllByRecursion IsPositive ys → AllByRecursion IsPositive (good_closed good (closed_from xs ys))
+good_closed_pos : (good : Plain → Bool) (xs ys : List Entry) → AllByRecursion IsPositive xs →
+    AllByRecursion IsPositive ys → AllByRecursion IsPositive (good_closed good (closed_from xs ys))
 good_closed_pos good xs ys a b = all_filter IsPositive _ (closed_from xs ys) (closed_pos xs ys a b)
 
 good_pos : (good : Plain → Bool) (w : List ℕ) (touched : Bool) (t : Plain) → AllByRecursion IsPositive (good_entries good w touched t)
@@ -85,7 +89,8 @@ good_pos good w false (graft k p c t) =
     all_pairs (with_outside (zeros p) k p) (outside_pos (zeros p) k p) _ (good_entries good w false t)
     (good_closed_pos good (good_entries good w false c) (good_entries good w true c) (good_pos good w false c) (good_pos good w true c)) (good_pos good w false t)
 
-pub good_closed_entries_pos : (good : Plain → Bool) (w : List ℕ) (t : Plain) → AllByRecursion (λ (e : Entry). 0 < e.coefficient) (good_closed good (closed_from (good_entries good w false t) (good_entries good w true t)))
+pub good_closed_entries_pos : (good : Plain → Bool) (w : List ℕ) (t : Plain) →
+    AllByRecursion (λ (e : Entry). 0 < e.coefficient) (good_closed good (closed_from (good_entries good w false t) (good_entries good w true t)))
 good_closed_entries_pos good w t = good_closed_pos good (good_entries good w false t) (good_entries good w true t) (good_pos good w false t) (good_pos good w true t)
 
 pub rooted_pos : (w : List ℕ) (t : Plain) → AllByRecursion (λ (e : Entry). 0 < e.coefficient) (rooted_entries w t)

@@ -49,7 +49,8 @@ module _ (ty : Types) (scaling : IsScaling ty.dims ty.scaling) (n j : ℕ) where
   abbrev branch : List ℕ → ℕ → List ℕ → Plain → Bool
   branch s k p c = is_above_zero (degree_plus (edge_degree_of ty k (plus_of p s)) (degree_of ty c))
 
-  inside_kept : (k : ℕ) (p : List ℕ) (h : Entry → ℕ) (x : Entry) (ys : List Entry) → against (kept h) (with_inside k p) ys x ≡ kept (λ e. total (kept (λ y. h (with_inside k p e y))) ys) x
+  inside_kept : (k : ℕ) (p : List ℕ) (h : Entry → ℕ) (x : Entry) (ys : List Entry) →
+      against (kept h) (with_inside k p) ys x ≡ kept (λ e. total (kept (λ y. h (with_inside k p e y))) ys) x
   inside_kept k p h x ys =
       total_ext (λ y. kept h (with_inside k p x y)) (λ y. counted_if (are_above_zero ty x.quotient) (kept (λ e. h (with_inside k p x e)) y)) ys
       (λ y. ap (λ b. counted_if b (h (with_inside k p x y))) (above-joined ty x.quotient y.quotient) ∙ counted_if-and (are_above_zero ty x.quotient) (are_above_zero ty y.quotient) (h (with_inside k p x y)))

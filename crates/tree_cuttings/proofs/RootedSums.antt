@@ -44,7 +44,8 @@ sweep_gate w b true t f = refl
 sweep_gate w b false t f = sweep_zero w b t
 
 -- a test of the child and one of the rest
-sweep_both : (w : List ℕ) (d a : Bool) (t : Plain) (q : CutTree → Bool) (f : CutTree → ℕ) → sweep w d t (λ y. counted_if (a && q y) (f y)) ≡ counted_if a (sweep w d t (λ y. counted_if (q y) (f y)))
+sweep_both : (w : List ℕ) (d a : Bool) (t : Plain) (q : CutTree → Bool) (f : CutTree → ℕ) →
+    sweep w d t (λ y. counted_if (a && q y) (f y)) ≡ counted_if a (sweep w d t (λ y. counted_if (q y) (f y)))
 sweep_both w d a t q f = sweep_ext w d t (λ y. counted_if (a && q y) (f y)) (λ y. counted_if a (counted_if (q y) (f y))) (λ y. counted_if-and a (q y) (f y)) ∙ sweep_gate w d a t (λ y. counted_if (q y) (f y))
 
 -- where an edge of K leaves the root, the cutting is not whole
@@ -58,7 +59,9 @@ not_whole (node a l) = refl
 not_whole (edge true s k p c r) = refl
 not_whole (edge false s k p c r) = not_both (leaves r) (is_rooted false c) (is_rooted false r) (not_whole r)
 
-closed_whole : (w : List ℕ) (c : Plain) (g : CutTree → ℕ) → sweep w false c (λ x. counted_if (is_rooted false x) (g x)) ≡ g (whole c) → closed_sum w c (λ x. counted_if (is_rooted false x) (g x)) ≡ g (whole c)
+closed_whole : (w : List ℕ) (c : Plain) (g : CutTree → ℕ) →
+    sweep w false c (λ x. counted_if (is_rooted false x) (g x)) ≡ g (whole c) →
+    closed_sum w c (λ x. counted_if (is_rooted false x) (g x)) ≡ g (whole c)
 closed_whole w c g h =
     let touched = sweep_ext w true c (λ x. counted_if (leaves x) (counted_if (is_rooted false x) (g x))) (λ x. 0) (λ x. sym (counted_if-and (leaves x) (is_rooted false x) (g x)) ∙ ap (λ d. counted_if d (g x)) (not_whole x)) ∙ sweep_zero w true c in
     omega (arith, h, touched)
@@ -103,7 +106,8 @@ or_none : (b : Bool) → b || false ≡ b
 or_none true = refl
 or_none false = refl
 
-entered_in : (all before after : List Marked) (r next : ℕ) (b : Bool) (s : List ℕ) (k : ℕ) (p : List ℕ) (c m : CutTree) (low : r < next) (around : IsAround all before after r next (edge b s k p c m)) → is_entered all next ≡ b
+entered_in : (all before after : List Marked) (r next : ℕ) (b : Bool) (s : List ℕ) (k : ℕ) (p : List ℕ) (c m : CutTree) (low : r < next) (around : IsAround all before after r next (edge b s k p c m)) →
+    is_entered all next ≡ b
 entered_in all before after r next b s k p c m low around =
     let rows_c = rows_from next (1 + next) c in
     let rows_m = rows_from r (1 + next + cut_size c) m in
@@ -118,7 +122,8 @@ entered_in all before after r next b s k p c m low around =
     ∙ ap (λ d. b || d) (enters_none next (rows_c ++ (rows_m ++ after)) later)
     ∙ or_none b
 
-rooted_rows : (all before after : List Marked) (r next : ℕ) (entered : Bool) (m : CutTree) → r < next → IsAround all before after r next m → is_entered all r ≡ entered →
+rooted_rows : (all before after : List Marked) (r next : ℕ) (entered : Bool) (m : CutTree) →
+    r < next → IsAround all before after r next m → is_entered all r ≡ entered →
     list_all (λ e. not e.inside || is_entered all e.parent) (rows_from r next m) ≡ is_rooted entered m
 rooted_rows all before after r next entered (node a l) low around t = refl
 rooted_rows all before after r next entered (edge b s k p c m) low around t =

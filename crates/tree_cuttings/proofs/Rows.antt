@@ -1,4 +1,5 @@
--- What numbers say of a cutting, and what the cutting read down the tree says, is the same: touched nodes, parts, cut_components.
+-- What numbers say of a cutting, and what the cutting read down the tree says, is the same: touched
+-- nodes, parts, cut_components.
 use Rattle.std.proofs.Common.{◌≡◌, ℕ, ◌+◌, ◌<◌, ◌≤◌, ◌==◌, ◌≢◌, ◌⊎◌, inl, inr, Bool, true, false, cond, not, ◌&&◌, ◌||◌, List, [], ◌∷◌, ◌++◌, map, filter, refl, ap, ◌∙◌, arith}
 use Rattle.std.specs.List.{list_any}
 use Rattle.plain_trees.specs.Plain.{Plain, bare, graft, root_of}
@@ -108,7 +109,8 @@ tree_none whole j n (y ∷ ys) a =
       | false ↦ tree_none whole j n ys a.2
     ]
 
-pub tree_first : (whole : List Marked) (j : ℕ) (n : List ℕ) (xs ys : List Marked) → Apart j ys → AllApart ys xs → tree_at j n (ins whole (xs ++ ys)) ≡ tree_at j n (ins whole xs)
+pub tree_first : (whole : List Marked) (j : ℕ) (n : List ℕ) (xs ys : List Marked) → Apart j ys →
+    AllApart ys xs → tree_at j n (ins whole (xs ++ ys)) ≡ tree_at j n (ins whole xs)
 tree_first whole j n [] ys a d = tree_none whole j n ys a
 tree_first whole j n (x ∷ xs) ys a d =
     elim x.inside as (λ b. tree_at j n (map (inner_link whole) (cond b (x ∷ filter (λ e. e.inside) (xs ++ ys)) (filter (λ e. e.inside) (xs ++ ys)))) ≡ tree_at j n (map (inner_link whole) (cond b (x ∷ filter (λ e. e.inside) xs) (filter (λ e. e.inside) xs)))) [
@@ -121,7 +123,8 @@ pub all_apart-append : (ys xs zs : List Marked) → AllApart ys xs → AllApart 
 all_apart-append ys [] zs a b = b
 all_apart-append ys (x ∷ xs) zs a b = (a.0, all_apart-append ys xs zs a.1 b)
 
-pub all_apart_rows : (ys : List Marked) (r next : ℕ) (m : CutTree) → ((j : ℕ) → next ≤ j → j < next + cut_size m → Apart j ys) → AllApart ys (rows_from r next m)
+pub all_apart_rows : (ys : List Marked) (r next : ℕ) (m : CutTree) →
+    ((j : ℕ) → next ≤ j → j < next + cut_size m → Apart j ys) → AllApart ys (rows_from r next m)
 all_apart_rows ys r next (node a l) h = tt
 all_apart_rows ys r next (edge b s k p c m) h = (
   h next (omega arith) (omega arith),

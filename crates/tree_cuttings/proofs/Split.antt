@@ -46,7 +46,8 @@ total-shifts_zero w p g = total-below_zero g (limits w p) ∙ ap g (zeros-limits
 abbrev pub block : List ℕ → Bool → ℕ → List ℕ → Plain → Plain → (CutTree → ℕ) → ℕ
 block w b k p c t g = total (λ s. total (λ x. total (λ y. g (edge b s k p x y)) (cut_markings w t)) (cut_markings w c)) (shifts w p)
 
-pub total-cut_markings : (w : List ℕ) (k : ℕ) (p : List ℕ) (c t : Plain) (g : CutTree → ℕ) → total g (cut_markings w (graft k p c t)) ≡ block w true k p c t g + block w false k p c t g
+pub total-cut_markings : (w : List ℕ) (k : ℕ) (p : List ℕ) (c t : Plain) (g : CutTree → ℕ) →
+    total g (cut_markings w (graft k p c t)) ≡ block w true k p c t g + block w false k p c t g
 total-cut_markings w k p c t g =
     let inner : (b : Bool) (s : List ℕ) → total g (flat_map (λ x. map (λ y. edge b s k p x y) (cut_markings w t)) (cut_markings w c)) ≡ total (λ x. total (λ y. g (edge b s k p x y)) (cut_markings w t)) (cut_markings w c) =
     λ b s. total-flat_map g (λ x. map (λ y. edge b s k p x y) (cut_markings w t)) (cut_markings w c)

@@ -1,4 +1,5 @@
--- The terms of the two coproducts: their coefficients, their order, and the recursion that gives them.
+-- The terms of the two coproducts: their coefficients, their order, and the recursion that gives
+-- them.
 use Rattle.std.proofs.Common.{◌≡◌, ℕ, ◌+◌, ◌<◌, Bool, true, false, cond, ◌&&◌, List, [], ◌∷◌, map, filter, refl, sym, ap, ◌∙◌, arith}
 use Rattle.std.specs.List.{AllByRecursion}
 use Rattle.std.specs.List.Sorted.{IsStrictlySortedBy}
@@ -35,7 +36,8 @@ abbrev pub term_of : {X K : Type 0} → (X → K) → (X → ℕ) → X → K ×
 term_of f g x = (f x, g x)
 
 -- the sum at a key of the terms that the members of a list give
-pub sum_at-map : {X K : Type 0} (same : K → K → Bool) (f : X → K) (g : X → ℕ) (k : K) (xs : List X) → sum_at same k (map (term_of f g) xs) ≡ total g (filter (λ x. same (f x) k) xs)
+pub sum_at-map : {X K : Type 0} (same : K → K → Bool) (f : X → K) (g : X → ℕ) (k : K) (xs : List X) →
+    sum_at same k (map (term_of f g) xs) ≡ total g (filter (λ x. same (f x) k) xs)
 sum_at-map same f g k [] = refl
 sum_at-map same f g k (x ∷ xs) =
     elim (same (f x) k) as (λ b. cond b (g x) 0 + sum_at same k (map (term_of f g) xs) ≡ total g (cond b (x ∷ filter (λ y. same (f y) k) xs) (filter (λ y. same (f y) k) xs))) [
@@ -43,7 +45,9 @@ sum_at-map same f g k (x ∷ xs) =
       | false ↦ let rest = sum_at-map same f g k xs in omega (arith, rest)
     ]
 
-pub terms_positive : {X K : Type 0} (f : X → K) (g : X → ℕ) (xs : List X) → AllByRecursion (λ x. 0 < g x) xs → AllByRecursion (λ (t : K × ℕ). 0 < t.1) (map (term_of f g) xs)
+pub terms_positive : {X K : Type 0} (f : X → K) (g : X → ℕ) (xs : List X) →
+    AllByRecursion (λ x. 0 < g x) xs →
+    AllByRecursion (λ (t : K × ℕ). 0 < t.1) (map (term_of f g) xs)
 terms_positive f g [] a = tt
 terms_positive f g (x ∷ xs) a = (a.0, terms_positive f g xs a.1)
 
@@ -114,7 +118,8 @@ module _ (ty : Types) (t : Plain) where
   abbrev pub e_entry_test : Extracted → List Plain → Plain → Bool
   e_entry_test k fs q = is_eq (extracted_order (canon_forest fs, canon q) k)
 
-  e_entries_sum : (k : Extracted) → sum_at (same_by extracted_order) k (map (term_of extracted_entry (λ e. e.coefficient)) (extraction_entries ty t)) ≡ extraction_coefficient ty t k
+  e_entries_sum : (k : Extracted) →
+      sum_at (same_by extracted_order) k (map (term_of extracted_entry (λ e. e.coefficient)) (extraction_entries ty t)) ≡ extraction_coefficient ty t k
   unfolding extraction_coefficient
   e_entries_sum k =
       sum_at-map (same_by extracted_order) extracted_entry (λ (e : Entry). e.coefficient) k (extraction_entries ty t)
@@ -131,7 +136,8 @@ module _ (ty : Types) (t : Plain) where
   abbrev pub r_entry_test : Recentred → Plain → Plain → Bool
   r_entry_test k l q = are_above_zero ty q && is_eq (recentred_order (canon l, canon q) k)
 
-  r_entries_sum : (k : Recentred) → sum_at (same_by recentred_order) k (map (term_of recentred_entry (λ e. e.coefficient)) (recentring_entries ty t)) ≡ recentring_coefficient ty t k
+  r_entries_sum : (k : Recentred) →
+      sum_at (same_by recentred_order) k (map (term_of recentred_entry (λ e. e.coefficient)) (recentring_entries ty t)) ≡ recentring_coefficient ty t k
   unfolding recentring_coefficient cutting_sum
   r_entries_sum k =
       let w = recentring_bound ty t in

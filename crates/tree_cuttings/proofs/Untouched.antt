@@ -1,4 +1,5 @@
--- At a node that is not touched all parts are 0 and their multinomial is 1, so a product over the touched nodes is one over all nodes.
+-- At a node that is not touched all parts are 0 and their multinomial is 1, so a product over the
+-- touched nodes is one over all nodes.
 use Rattle.std.proofs.Common.{◌≡◌, ℕ, zero, suc, ◌*◌, ◌==◌, Bool, true, false, cond, not, ◌&&◌, ◌||◌, List, [], ◌∷◌, ◌++◌, map, filter, refl, sym, ap, ◌∙◌, arith}
 use Rattle.std.proofs.lemmas.Bool.{and_parts}
 use Rattle.std.specs.List.{list_all}
@@ -42,7 +43,8 @@ and_false false b e = refl
 abbrev zero_shift : Bool → List Marked → Marked → Bool
 zero_shift forced whole e = (is_touched forced whole e.parent && not e.inside) || is_zero e.shift
 
-shifts_zero : (forced : Bool) (whole : List Marked) (j : ℕ) (es : List Marked) → is_touched forced whole j ≡ false → list_all (zero_shift forced whole) es ≡ true →
+shifts_zero : (forced : Bool) (whole : List Marked) (j : ℕ) (es : List Marked) →
+    is_touched forced whole j ≡ false → list_all (zero_shift forced whole) es ≡ true →
     list_all is_zero (map (λ (e : Marked). e.shift) (filter (λ e. (e.parent == j) && not e.inside) es)) ≡ true
 shifts_zero forced whole j [] t h = refl
 shifts_zero forced whole j (e ∷ es) t h =
@@ -70,7 +72,9 @@ and_true : (a b : Bool) → a ≡ true → b ≡ true → a && b ≡ true
 and_true true b p q = q
 and_true false b p q = absurd cc
 
-untouched : (forced : Bool) (whole : List Marked) (v : Node) → list_all (zero_shift forced whole) whole ≡ true → is_touched forced whole v.number || is_zero v.taken ≡ true →
+untouched : (forced : Bool) (whole : List Marked) (v : Node) →
+    list_all (zero_shift forced whole) whole ≡ true →
+    is_touched forced whole v.number || is_zero v.taken ≡ true →
     is_touched forced whole v.number ≡ false → multinomial_of (parts_at whole v) ≡ 1
 untouched forced whole v all h t =
     let z : is_zero v.taken ≡ true = or_second (is_touched forced whole v.number) (is_zero v.taken) t h in
@@ -79,7 +83,9 @@ untouched forced whole v all h t =
     (shifts_zero forced whole v.number whole t all) (and_true (is_zero v.taken) true z refl))
 
 -- a product over those that pass a test, where the others have the factor 1
-product_passed : {X : Type 0} (f : X → ℕ) (p q : X → Bool) → ((x : X) → q x ≡ true → p x ≡ false → f x ≡ 1) → (xs : List X) → list_all q xs ≡ true → product_over f (filter p xs) ≡ product_over f xs
+product_passed : {X : Type 0} (f : X → ℕ) (p q : X → Bool) →
+    ((x : X) → q x ≡ true → p x ≡ false → f x ≡ 1) → (xs : List X) → list_all q xs ≡ true →
+    product_over f (filter p xs) ≡ product_over f xs
 product_passed f p q one [] h = refl
 product_passed f p q one (x ∷ xs) h =
     let rest = product_passed f p q one xs (and_parts (q x) (list_all q xs) h).1 in

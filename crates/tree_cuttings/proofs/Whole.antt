@@ -1,4 +1,5 @@
--- The cutting with no edge in K: no root_component, the tree itself as contracted, cut_coefficient 1.
+-- The cutting with no edge in K: no root_component, the tree itself as contracted, cut_coefficient
+-- 1.
 use Rattle.std.proofs.Common.{◌≡◌, ℕ, ◌+◌, false, List, [], ◌∷◌, refl, ap, ◌∙◌, arith}
 use Rattle.plain_trees.specs.Plain.{Plain, bare, graft, root_of}
 use Rattle.degree_numbers.specs.Multi.{plus_of}
@@ -51,7 +52,8 @@ pub components_whole : (t : Plain) → cut_components false (whole t) ≡ []
 components_whole t = rw (leaves_whole t) (above_whole t)
 
 -- the flat form is that of the tree
-pub flat_whole : (t : Plain) → (numbered_components false (flat_of (whole t)) ≡ []) × (numbered_quotient (flat_of (whole t)) ≡ t) × (numbered_coefficient (flat_of (whole t)) ≡ 1)
+pub flat_whole : (t : Plain) →
+    (numbered_components false (flat_of (whole t)) ≡ []) × (numbered_quotient (flat_of (whole t)) ≡ t) × (numbered_coefficient (flat_of (whole t)) ≡ 1)
 flat_whole t = (
   numbered_components_are false (whole t) ∙ components_whole t,
   numbered_quotient_is (whole t) ∙ quotient_whole t,

@@ -46,14 +46,16 @@ module _ (ty : Types) (t : Plain) (n : ℕ) (types : AreTypes ty) where
   abbrev e_value : Extracted → Entry → ℕ
   e_value k e = counted_if (is_eq (extracted_order (extracted_entry e) k)) e.coefficient
 
-  e_same : negative_size ty t / unsigned_abs ty.units.den ≤ n → (k : Extracted) → total (e_value k) (extraction_entries_within w ty t) ≡ total (e_value k) (extraction_entries ty t)
+  e_same : negative_size ty t / unsigned_abs ty.units.den ≤ n → (k : Extracted) →
+      total (e_value k) (extraction_entries_within w ty t) ≡ total (e_value k) (extraction_entries ty t)
   e_same most k =
       let b = negative_size ty t / unsigned_abs ty.units.den in
       let e : b + (n - b) ≡ n = omega (arith, most) in
       ap (λ (i : ℕ). total (e_value k) (extraction_entries_within (each_direction ty.dims i) ty t)) (sym e)
       ∙ closed_bounds ty (is_extracted ty) (low ty) types.scaling b (n - b) t (e_value k) (next_multiple ty types (negative_size ty t))
 
-  e_by_entries : (v : List ℕ) (k : Extracted) → cutting_sum v false (λ c. is_admissible ty c && is_eq (extracted_order (extracted c) k)) t ≡ total (e_value k) (extraction_entries_within v ty t)
+  e_by_entries : (v : List ℕ) (k : Extracted) →
+      cutting_sum v false (λ c. is_admissible ty c && is_eq (extracted_order (extracted c) k)) t ≡ total (e_value k) (extraction_entries_within v ty t)
   e_by_entries v k = cutting_sum_by_good_entries v (is_extracted ty) (e_entry_test ty t k) t
 
   pub extraction_sums_at : (k : Extracted) → negative_size ty t / unsigned_abs ty.units.den ≤ n →
@@ -64,7 +66,8 @@ module _ (ty : Types) (t : Plain) (n : ℕ) (types : AreTypes ty) where
   e_listed : List (Extracted × ℕ)
   e_listed = map (term_of extracted_entry (λ (e : Entry). e.coefficient)) (extraction_entries_within w ty t)
 
-  pub extraction_at : negative_size ty t / unsigned_abs ty.units.den ≤ n → extraction_terms ty t ≡ collected extracted_order (map (λ e. (extracted_entry e, e.coefficient)) (extraction_entries_within w ty t))
+  pub extraction_at : negative_size ty t / unsigned_abs ty.units.den ≤ n →
+      extraction_terms ty t ≡ collected extracted_order (map (λ e. (extracted_entry e, e.coefficient)) (extraction_entries_within w ty t))
   unfolding extraction_terms e_listed
   extraction_at most =
       collected_same extracted_order extracted_total extracted_exact (e_terms ty t) e_listed (e_positive ty t)
@@ -107,7 +110,8 @@ module _ (ty : Types) (t : Plain) (n : ℕ) (types : AreTypes ty) where
   r_listed : List (Recentred × ℕ)
   r_listed = map (term_of recentred_entry (λ (e : Entry). e.coefficient)) (recentring_entries_within w ty t)
 
-  pub recentring_at : positive_size ty t / unsigned_abs ty.units.den ≤ n → recentring_terms ty t ≡ collected recentred_order (map (λ e. (recentred_entry e, e.coefficient)) (recentring_entries_within w ty t))
+  pub recentring_at : positive_size ty t / unsigned_abs ty.units.den ≤ n →
+      recentring_terms ty t ≡ collected recentred_order (map (λ e. (recentred_entry e, e.coefficient)) (recentring_entries_within w ty t))
   unfolding recentring_terms r_listed
   recentring_at most =
       let all = rooted_entries w t in

@@ -1,14 +1,20 @@
 -- The types of two equations, and what their trees are made of.
---   noise_type a b == a noise xi of degree a/2 + b/2 * k;  heat_kernel == a kernel u of degree 2; in units of one half
+--   noise_type a b == a noise xi of degree a/2 + b/2 * k; heat_kernel == a kernel u of degree 2; in
+--       units of one half
 --   kpz == the KPZ equation in one dimension of space: scaling (2, 1), a noise of degree -3/2 - k
---   phi4 == the Phi^4 equation in three dimensions of space: scaling (2, 1, 1, 1), a noise of degree -5/2 - k
---   pam == the parabolic Anderson model in two dimensions of space: scaling (2, 1, 1), a noise of degree -1 - k
+--   phi4 == the Phi^4 equation in three dimensions of space: scaling (2, 1, 1, 1), a noise of
+--       degree -5/2 - k
+--   pam == the parabolic Anderson model in two dimensions of space: scaling (2, 1, 1), a noise of
+--       degree -1 - k
 --   zero == the multiindex 0;  space n == n in the second direction, the first one of space
 --   xi p t == the tree t with one more edge in front, of the noise with the derivative decoration p
---   u p c t == the tree t with one more edge in front, of the kernel with the derivative decoration p, and the tree c above it
+--   u p c t == the tree t with one more edge in front, of the kernel with the derivative decoration
+--       p, and the tree c above it
 --   node n == the tree with one node, decorated by n
---   empty == [];  noise == [xi];  decorated_noise == [X(0,1)*xi];  two_noises == [xi*xi], for any number of directions
---   leg t == the tree t with one more edge u'(0,1)[xi] in front;  stump t == with one more edge u'(0,1)[]
+--   empty == []; noise == [xi]; decorated_noise == [X(0,1)*xi]; two_noises == [xi*xi], for any
+--       number of directions
+--   leg t == the tree t with one more edge u'(0,1)[xi] in front; stump t == with one more edge
+--       u'(0,1)[]
 --   cherry == [u'(0,1)[xi]*u'(0,1)[xi]];  planted_cherry == [u'(0,1)[u'(0,1)[xi]*u'(0,1)[xi]]]
 --   smooth_noise == [u[u[xi]]]
 --   mixed == [X(0,1,0)*u[X(0,1,0)*xi]]
@@ -19,10 +25,22 @@ use Rattle.degree_numbers.specs.declared.types.Kind.TheVariants.{Noise, Kernel}
 use Rattle.plain_trees.specs.Plain.{Plain, bare, graft}
 
 abbrev pub noise_type : ℤ → ℤ → TypeEntry
-noise_type a b = record { name = codes "xi"; kind = Noise; degree = record { a = a; b = b }; group = 0; moments = None }
+noise_type a b = record {
+  name = codes "xi";
+  kind = Noise;
+  degree = record { a = a; b = b };
+  group = 0;
+  moments = None;
+}
 
 abbrev pub heat_kernel : TypeEntry
-heat_kernel = record { name = codes "u"; kind = Kernel; degree = record { a = pos 4; b = pos 0 }; group = 0; moments = None }
+heat_kernel = record {
+  name = codes "u";
+  kind = Kernel;
+  degree = record { a = pos 4; b = pos 0 };
+  group = 0;
+  moments = None;
+}
 
 abbrev pub kpz : Types
 kpz =

@@ -1,6 +1,7 @@
 -- Sums over the cuttings of a tree, by a recursion down the tree.
 --   sweep w true t f == the sum of f over the cuttings of t in which the root counts as touched
---   sweep w false t f == the sum of f over those in which no edge of the set leaves the root and the root is not touched
+--   sweep w false t f == the sum of f over those in which no edge of the set leaves the root and
+--       the root is not touched
 --   closed_sum w t f == the sum of f over all cuttings of t
 use Rattle.std.specs.Prelude.{ℕ, ◌+◌, Bool, true, false, List}
 use Rattle.plain_trees.specs.Plain.{Plain, bare, graft}
@@ -22,7 +23,8 @@ sweep w true (graft k p c t) f =
     (shifts w p)
 sweep w false (graft k p c t) f =
     sweep w false c (λ x. sweep w false t (λ y. f (edge false (zeros p) k p x y)))
-    + sweep w true c (λ x. counted_if (leaves x) (sweep w false t (λ y. f (edge false (zeros p) k p x y))))
+    + sweep w true c (λ x. counted_if (leaves x)
+    (sweep w false t (λ y. f (edge false (zeros p) k p x y))))
 
 abbrev pub closed_sum : List ℕ → Plain → (CutTree → ℕ) → ℕ
 closed_sum w t f = sweep w false t f + sweep w true t (λ x. counted_if (leaves x) (f x))

@@ -1,5 +1,5 @@
 -- What is done at the root of a tree.
---   raised, joined == as in plain_trees
+--   raised, joined == the notions of plain_trees, for use with these
 --   has_edge t == t has an edge
 pub use Rattle.plain_trees.specs.Joined.{raised, joined}
 use Rattle.std.specs.Prelude.{Bool, true, false}

@@ -1,7 +1,9 @@
 -- The terms of the two coproducts, by the recursions down the tree.
---   extraction_entries_within w ty t == the entries of the cuttings of t of which all components are extracted, with shifts that are at most w
+--   extraction_entries_within w ty t == the entries of the cuttings of t of which all components
+--       are extracted, with shifts that are at most w
 --   extraction_entries ty t == the same with the bound of the definition
---   recentring_entries_within w ty t == the entries of the cuttings of t that recentre, with shifts that are at most w
+--   recentring_entries_within w ty t == the entries of the cuttings of t that recentre, with shifts
+--       that are at most w
 --   recentring_entries ty t == the same with the bound of the definition
 --   extracted_entry e == the canonical forms of the components and of the quotient
 --   recentred_entry e == the canonical forms of the root's component and of the quotient
@@ -14,7 +16,9 @@ use Rattle.tree_cuttings.specs.Entries.{Entry, forest_of, closed_from, good_clos
 use Rattle.tree_cuttings.specs.Rooted.{rooted_entries}
 
 abbrev pub extraction_entries_within : List ℕ → Types → Plain → List Entry
-extraction_entries_within w ty t = good_closed (is_extracted ty) (closed_from (good_entries (is_extracted ty) w false t) (good_entries (is_extracted ty) w true t))
+extraction_entries_within w ty t = good_closed (is_extracted ty)
+    (closed_from (good_entries (is_extracted ty) w false t) (good_entries (is_extracted ty) w true
+    t))
 
 abbrev pub extraction_entries : Types → Plain → List Entry
 extraction_entries ty t = extraction_entries_within (extraction_bound ty t) ty t

@@ -1,4 +1,5 @@
-//! Cuttings of decorated trees read down the tree, and the laws that join them to the definition by numbers.
+//! Cuttings of decorated trees read down the tree, and the laws that join them to the definition by
+//! numbers. Articles speak of the numbers, programs and proofs of the recursion.
 #![tactic(auto)]
 
 mod examples;

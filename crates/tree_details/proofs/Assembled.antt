@@ -21,7 +21,8 @@ use Rattle.tree_details.specs.Detail.{section, head_text, pairing_line, extracti
 use Rattle.tree_details.specs.Values.{polynomial_lines, recentred_pairs, IsDetail}
 use Rattle.tree_details.proofs.SumTexts.{sum_text, differentials_text}
 
-together : (h p e r x y z w0 w1 w2 w3 w4 : List ℕ) → w0 ≡ h → w1 ≡ w0 ++ p → w2 ≡ w1 ++ e → w3 ≡ w2 ++ r → w4 ≡ w3 ++ ((x ++ y) ++ z) → w4 ≡ (((((h ++ p) ++ e) ++ r) ++ x) ++ y) ++ z
+together : (h p e r x y z w0 w1 w2 w3 w4 : List ℕ) → w0 ≡ h → w1 ≡ w0 ++ p → w2 ≡ w1 ++ e →
+    w3 ≡ w2 ++ r → w4 ≡ w3 ++ ((x ++ y) ++ z) → w4 ≡ (((((h ++ p) ++ e) ++ r) ++ x) ++ y) ++ z
 together h p e r x y z w0 w1 w2 w3 w4 e0 e1 e2 e3 e4 =
     e4
     ∙ sym (append_assoc w3 (x ++ y) z)

@@ -30,7 +30,9 @@ use Rattle.tree_details.specs.Values.{IsPolynomialOf, recentred_pairs}
 use Rattle.tree_details.proofs.ValueSymbols.{over_trees, over_expectations}
 
 -- the terms of the coproducts
-pub terms_found : (b d : TablesContent) (i : ℕ) (ts : List ExtractTerm) → AreGrown b d → i < length b.pool.trees → AreKnownTerms (grove_of d) ts → terms_in (grove_of d) ts ≡ whole_terms (coproduct_of b.pool i)
+pub terms_found : (b d : TablesContent) (i : ℕ) (ts : List ExtractTerm) → AreGrown b d →
+    i < length b.pool.trees → AreKnownTerms (grove_of d) ts →
+    terms_in (grove_of d) ts ≡ whole_terms (coproduct_of b.pool i)
     → AreInRange (coproduct_of b.pool i) → IsTerms (grove_of d) i ts
 terms_found b d i ts grown known terms same range =
     let stays : coproduct_of d.pool i ≡ coproduct_of b.pool i = coproduct_grown b.pool d.pool i grown.pool known in
@@ -41,7 +43,8 @@ terms_found b d i ts grown known terms same range =
       range = rw stays range;
     }
 
-pub terms_stay : (b d : TablesContent) (i : ℕ) (ts : List ExtractTerm) → IsGrove (grove_of b) → AreGrown b d → IsTerms (grove_of b) i ts → IsTerms (grove_of d) i ts
+pub terms_stay : (b d : TablesContent) (i : ℕ) (ts : List ExtractTerm) → IsGrove (grove_of b) →
+    AreGrown b d → IsTerms (grove_of b) i ts → IsTerms (grove_of d) i ts
 terms_stay b d i ts grove grown h = (finished_grown (grove_of b) (grove_of d) grove grown ((i, ts) ∷ []) (h, tt)).0
 
 pub recentred_stay : (c d : Content) (i : ℕ) (ts : List RightTerm) → IsGrown c d → recentring.IsTerms c i ts → recentring.IsTerms d i ts
@@ -66,7 +69,8 @@ counted_in : (c : Content) (ts : List RightTerm) → recentred_pairs c ts ≡ ma
 counted_in c [] = refl
 counted_in c (e ∷ ts) = ap (λ (ys : List (Recentred × ℕ)). (recentred_in c (lines.key_of e), unsigned_abs e.coefficient) ∷ ys) (counted_in c ts)
 
-pub recentred_pairs_of : (c : Content) (ts : List RightTerm) (xs : List (Recentred × ℕ)) → lines.right_terms_in c ts ≡ lines.whole_terms xs → recentred_pairs c ts ≡ xs
+pub recentred_pairs_of : (c : Content) (ts : List RightTerm) (xs : List (Recentred × ℕ)) →
+    lines.right_terms_in c ts ≡ lines.whole_terms xs → recentred_pairs c ts ≡ xs
 recentred_pairs_of c ts xs h = counted_in c ts ∙ ap (map counted) h ∙ back xs
 
 -- the values of a tree
@@ -77,14 +81,18 @@ mass_fits p n h e = let same : unsigned_abs p.mass ≡ n = ap unsigned_abs e ∙
     whole n = omega (arith, ints)
 
 module _ (eq : Equation) (c : Content) (t : Plain) (p : Poly) (types : c.types ≡ eq.types) (poly : IsPoly p) (range : unsigned_abs p.mass < overflow) where
-  pub antipode_found : AreOverTrees c.types (terms_of p.terms) → ((a : Plain → Weighed) → IsAntipode c.types a → IsPolyOf (a t) p) → (a : Plain → Weighed) → IsAntipode eq.types a
+  pub antipode_found : AreOverTrees c.types (terms_of p.terms) →
+      ((a : Plain → Weighed) → IsAntipode c.types a → IsPolyOf (a t) p) → (a : Plain → Weighed) →
+      IsAntipode eq.types a
       → IsPolynomialOf eq (a t).terms p × ((a t).mass < overflow)
   antipode_found trees found a is =
       let value = found a (subst (λ (ty : Types). IsAntipode ty a) (sym types) is) in
       let typed = subst (λ (ty : Types). AreOverTrees ty (terms_of p.terms)) types trees in
       (record { poly = poly; coefficients = value.coefficients; printed = over_trees eq.types eq.parameters (terms_of p.terms) poly.each typed }, mass_fits p (a t).mass range value.mass)
 
-  pub constant_found : AreTyped c.types (terms_of p.terms) → AreOverExpectations (terms_of p.terms) → ((k : Plain → Weighed) → IsConstants c.types nothing k → IsPolyOf (k t) p)
+  pub constant_found : AreTyped c.types (terms_of p.terms) →
+      AreOverExpectations (terms_of p.terms) →
+      ((k : Plain → Weighed) → IsConstants c.types nothing k → IsPolyOf (k t) p)
       → (k : Plain → Weighed) → IsConstants eq.types nothing k → IsPolynomialOf eq (k t).terms p × ((k t).mass < overflow)
   constant_found types_of expected found k is =
       let value = found k (subst (λ (ty : Types). IsConstants ty nothing k) (sym types) is) in

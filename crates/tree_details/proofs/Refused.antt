@@ -46,7 +46,8 @@ refused_as id P Q (TooLarge tree q) to h = (h.0, to q h.1)
 refused_as id P Q Memory to h = tt
 
 module _ (eq : Equation) (ty : Types) (t : Plain) (id : TreeId) (e : AntipodeError) (types : ty ≡ eq.types) where
-  pub antipode_refused : IsAntipodeRefused ty t e → IsRefusedFor id (λ q. (q ≡ Antipode) × ((a : Plain → Weighed) → IsAntipode eq.types a → overflow ≤ (a t).mass)) (of_antipode id e)
+  pub antipode_refused : IsAntipodeRefused ty t e →
+      IsRefusedFor id (λ q. (q ≡ Antipode) × ((a : Plain → Weighed) → IsAntipode eq.types a → overflow ≤ (a t).mass)) (of_antipode id e)
   antipode_refused h = at e h
     where
       at : (f : AntipodeError) → IsAntipodeRefused ty t f → IsRefusedFor id (λ q. (q ≡ Antipode) × ((a : Plain → Weighed) → IsAntipode eq.types a → overflow ≤ (a t).mass)) (of_antipode id f)
@@ -55,7 +56,9 @@ module _ (eq : Equation) (ty : Types) (t : Plain) (id : TreeId) (e : AntipodeErr
       at (antipodes.CoefficientTooLarge parts.Antipode) k = (refl, (refl, λ a is. k a (subst (λ (u : Types). IsAntipode u a) (sym types) is)))
       at (antipodes.CoefficientTooLarge parts.Constant) k = absurd k
 
-  pub constant_refused : (held : Plain → Option Weighed) → ((c : Plain → Weighed) → IsConstants eq.types nothing c → IsConstants ty held c) → terms.AreInRange (extraction_terms ty t) → IsConstantRefused ty held t e
+  pub constant_refused : (held : Plain → Option Weighed) →
+      ((c : Plain → Weighed) → IsConstants eq.types nothing c → IsConstants ty held c) →
+      terms.AreInRange (extraction_terms ty t) → IsConstantRefused ty held t e
       → IsRefusedFor id (λ q. (q ≡ Constant) × ((c : Plain → Weighed) → IsConstants eq.types nothing c → overflow ≤ (c t).mass)) (of_antipode id e)
   constant_refused held same range h = at e h
     where
@@ -85,7 +88,8 @@ module _ (eq : Equation) (a c : Plain → Weighed) (t : Plain) where
   below : (m : ℕ) → m < overflow → overflow ≤ m → ⊥
   below m h k = absurd (omega (arith, h, k))
 
-  pub polynomials_range : (a t).mass < overflow → (c t).mass < overflow → AreInRange (IsDifferentialPast eq t) (quantities_at eq.unknowns) → AreInRange Past Polynomials
+  pub polynomials_range : (a t).mass < overflow → (c t).mass < overflow →
+      AreInRange (IsDifferentialPast eq t) (quantities_at eq.unknowns) → AreInRange Past Polynomials
   polynomials_range h k d = (below (a t).mass h, ((λ p. below (c t).mass k p.1), range_at eq.unknowns d))
 
   pub antipode_first : (q : Quantity) → (q ≡ Antipode) × (overflow ≤ (a t).mass) → IsFirstOf Past Polynomials q
@@ -94,7 +98,9 @@ module _ (eq : Equation) (a c : Plain → Weighed) (t : Plain) where
   pub constant_first : (q : Quantity) → (a t).mass < overflow → (q ≡ Constant) × (overflow ≤ (c t).mass) → IsFirstOf Past Polynomials q
   constant_first q h k = inr (below (a t).mass h, inl (k.0, (refl, k.1)))
 
-  pub differential_first : (q : Quantity) → (a t).mass < overflow → (c t).mass < overflow → IsFirstOf (IsDifferentialPast eq t) (quantities_at eq.unknowns) q → IsFirstOf Past Polynomials q
+  pub differential_first : (q : Quantity) → (a t).mass < overflow → (c t).mass < overflow →
+      IsFirstOf (IsDifferentialPast eq t) (quantities_at eq.unknowns) q →
+      IsFirstOf Past Polynomials q
   differential_first q h k d = inr (below (a t).mass h, inr ((λ p. below (c t).mass k p.1), first_at eq.unknowns q d))
 
   pub extraction_first : (q : Quantity) → (q ≡ Extraction) × (terms.AreInRange (extraction_terms eq.types t) → ⊥) → IsFirstPast eq a c t q
@@ -106,8 +112,12 @@ module _ (eq : Equation) (a c : Plain → Weighed) (t : Plain) where
   pub recentring_first : terms.AreInRange (extraction_terms eq.types t) → (lines.AreInRange (recentring_terms eq.types t) → ⊥) → IsFirstPast eq a c t Recentring
   recentring_first h k = inr (extraction_range h, inl (refl, k))
 
-  pub polynomial_first : (q : Quantity) → terms.AreInRange (extraction_terms eq.types t) → lines.AreInRange (recentring_terms eq.types t) → IsFirstOf Past Polynomials q → IsFirstPast eq a c t q
+  pub polynomial_first : (q : Quantity) → terms.AreInRange (extraction_terms eq.types t) →
+      lines.AreInRange (recentring_terms eq.types t) → IsFirstOf Past Polynomials q →
+      IsFirstPast eq a c t q
   polynomial_first q h k f = inr (extraction_range h, inr ((λ p. p k), f))
 
-  pub all_range : terms.AreInRange (extraction_terms eq.types t) → lines.AreInRange (recentring_terms eq.types t) → AreInRange Past Polynomials → IsInRange eq a c t
+  pub all_range : terms.AreInRange (extraction_terms eq.types t) →
+      lines.AreInRange (recentring_terms eq.types t) → AreInRange Past Polynomials →
+      IsInRange eq a c t
   all_range h k f = (extraction_range h, ((λ p. p k), f))

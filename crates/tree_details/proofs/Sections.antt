@@ -7,7 +7,8 @@ use Rattle.counterterm_report.specs.Report.{line}
 use Rattle.tree_details.specs.Detail.{section}
 
 -- the line with the number, and the rows that are still to be written
-pub begun : {A : Type 0} (label : List ℕ) (row : A → List ℕ) (xs : List A) (n : ℕ) (text start now : List ℕ) → n ≡ length xs → text ≡ decimal n → now ≡ start ++ line label text
+pub begun : {A : Type 0} (label : List ℕ) (row : A → List ℕ) (xs : List A) (n : ℕ) (text start now : List ℕ) →
+    n ≡ length xs → text ≡ decimal n → now ≡ start ++ line label text
     → now ++ flat_map row xs ≡ start ++ section label row xs
 begun label row xs n text start now count number written =
     ap (λ l. l ++ flat_map row xs) (written ∙ ap (λ l. start ++ line label l) (number ∙ ap decimal count)) ∙ append_assoc start (line label (decimal (length xs))) (flat_map row xs)

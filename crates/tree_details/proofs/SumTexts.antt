@@ -32,7 +32,8 @@ is_sum eq ts p h = record {
 pub sum_text : (eq : Equation) (ts : List PlainTerm) (p : Poly) → IsPolynomialOf eq ts p → IsSumText eq ts (printed eq p)
 sum_text eq ts p h = record { sum = terms_of p.terms; is_sum = is_sum eq ts p h; is = refl }
 
-pub differentials_text : (eq : Equation) (t : Plain) (us : List Unknown) (ds : List DiffValue) → AreDifferentialsOf eq t us ds → All (λ d. IsPrinted eq d.poly) ds
+pub differentials_text : (eq : Equation) (t : Plain) (us : List Unknown) (ds : List DiffValue) →
+    AreDifferentialsOf eq t us ds → All (λ d. IsPrinted eq d.poly) ds
     → AreDifferentialLines eq t us (differential_lines eq us ds)
 differentials_text eq t [] [] h p = refl
 differentials_text eq t [] (d ∷ ds) h p = absurd h

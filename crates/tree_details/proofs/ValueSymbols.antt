@@ -1,4 +1,5 @@
--- The values of trees can be printed: their symbols are trees over the types, and expectations of these.
+-- The values of trees can be printed: their symbols are trees over the types, and expectations of
+-- these.
 use Rattle.std.proofs.Common.{ℕ, List, [], ◌∷◌}
 use Rattle.std.specs.List.{AllByRecursion}
 use Rattle.degree_numbers.specs.declared.types.Types.{Types}
@@ -35,6 +36,7 @@ module _ (ty : Types) (ps : List (List ℕ)) where
   over_trees [] m h = tt
   over_trees (t ∷ ts) m h = (record { over = tree_monomial t.symbols h.0; trees = m.0.trees }, over_trees ts m.1 h.1)
 
-  pub over_expectations : (ts : List PlainTerm) → AllByRecursion IsMonomial (monomials ts) → AreTyped ty ts → AreOverExpectations ts → AllByRecursion (IsTermOver ty ps) ts
+  pub over_expectations : (ts : List PlainTerm) → AllByRecursion IsMonomial (monomials ts) →
+      AreTyped ty ts → AreOverExpectations ts → AllByRecursion (IsTermOver ty ps) ts
   over_expectations [] m h k = tt
   over_expectations (t ∷ ts) m h k = (record { over = expected_monomial t.symbols h.0 k.0; trees = m.0.trees }, over_expectations ts m.1 h.1 k.1)

@@ -1,12 +1,14 @@
 -- The values of a tree, of which its detail is written.
+-- What contracts of public calls say:
 --   IsPolynomialOf eq ts p == the polynomial p has the coefficients of the terms ts, and its
 --       symbols are named by the equation
---   polynomial_lines eq p == the lines of the polynomials p
 --   recentred_pairs c es == the terms es, as pairs of trees with their coefficients
 --   ArePolynomials eq t p == p has the twisted antipode of the tree t, its constant, where no
 --       constant is held, and its elementary differentials
 --   IsDetail eq b d == d has the values of its tree, which is one of the trees of b: its pairings,
 --       the terms of both its coproducts, and its polynomials
+-- Working notions of the code and of proofs:
+--   polynomial_lines eq p == the lines of the polynomials p
 use Rattle.std.specs.Prelude.{◌≡◌, ℕ, ◌<◌, unsigned_abs, List, ◌++◌, map, length, codes}
 use Rattle.std.specs.List.{All}
 use Rattle.equations.specs.declared.equation.Equation.{Equation}

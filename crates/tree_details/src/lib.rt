@@ -1,4 +1,5 @@
-//! The detail of a tree: all that the workbench computes of it, as a text.
+//! The detail of a tree: all that the workbench computes of it, as a text. Here the coproducts,
+//! pairings, antipode and differentials meet.
 #![tactic(auto)]
 
 mod coproducts;

@@ -36,15 +36,20 @@ module _ (ty : Types) where
   abbrev Ends : ℕ → List ℕ → Type 0
   Ends d text = (f : Bool) (n : List ℕ) (o : Bool) (l : ℕ) → Takes (st After f n true o l (suc d)) text
 
-  digits : (f : Bool) (n : List ℕ) (e o : Bool) (l d : ℕ) (bs text : List ℕ) → AllByRecursion (λ c. is_ascii_digit c ≡ true) bs → Takes (st Digits f n e o l d) text → Takes (st Digits f n e o l d) (bs ++ text)
+  digits : (f : Bool) (n : List ℕ) (e o : Bool) (l d : ℕ) (bs text : List ℕ) →
+      AllByRecursion (λ c. is_ascii_digit c ≡ true) bs → Takes (st Digits f n e o l d) text →
+      Takes (st Digits f n e o l d) (bs ++ text)
   digits f n e o l d [] text h k = k
   digits f n e o l d (b ∷ bs) text h k = go (st Digits f n e o l d) b (st Digits f n e o l d) (bs ++ text) (rw h.0 refl) (digits f n e o l d bs text h.1 k)
 
-  number : (f : Bool) (n : List ℕ) (e o : Bool) (l d : ℕ) (bs text : List ℕ) → IsNumber bs → Takes (st Digits f n e o l d) text → Takes (st Entry f n e o l d) (bs ++ text)
+  number : (f : Bool) (n : List ℕ) (e o : Bool) (l d : ℕ) (bs text : List ℕ) → IsNumber bs →
+      Takes (st Digits f n e o l d) text → Takes (st Entry f n e o l d) (bs ++ text)
   number f n e o l d [] text h k = absurd h
   number f n e o l d (b ∷ bs) text h k = go (st Entry f n e o l d) b (st Digits f n e o l d) (bs ++ text) (rw h.0 refl) (digits f n e o l d bs text h.1 k)
 
-  entries : (f : Bool) (n : List ℕ) (e o : Bool) (l d : ℕ) (es : List (List ℕ)) (text : List ℕ) → length es ≡ suc l → AllByRecursion IsNumber es → Takes (st After f n e o 0 d) text → Takes (st Entry f n e o l d) (entries_onto es text)
+  entries : (f : Bool) (n : List ℕ) (e o : Bool) (l d : ℕ) (es : List (List ℕ)) (text : List ℕ) →
+      length es ≡ suc l → AllByRecursion IsNumber es → Takes (st After f n e o 0 d) text →
+      Takes (st Entry f n e o l d) (entries_onto es text)
   entries f n e o l d [] text h k a = absurd (omega (arith, h))
   entries f n e o zero d (x ∷ []) text h k a = number f n e o 0 d x (41 ∷ text) k.0 (go (st Digits f n e o 0 d) 41 (st After f n e o 0 d) text refl a)
   entries f n e o (suc l) d (x ∷ []) text h k a = absurd (omega (arith, h))
@@ -64,7 +69,8 @@ module _ (ty : Types) where
       go (st Name f n e o l d) b (st Name f (n ++ b ∷ []) e o l d) (bs ++ text) (rw (h.0, room) refl)
       (more_name f (n ++ b ∷ []) e o l d bs text h.1 longer (subst (λ (m : List ℕ). Takes (st Name f m e o l d) text) (sym (append_assoc n (b ∷ []) bs)) k))
 
-  whole_name : (f : Bool) (n : List ℕ) (e o : Bool) (l d : ℕ) (m text : List ℕ) → IsName m → Takes (st Name f m e o l d) text → Takes (st Factor f n e o l d) (m ++ text)
+  whole_name : (f : Bool) (n : List ℕ) (e o : Bool) (l d : ℕ) (m text : List ℕ) → IsName m →
+      Takes (st Name f m e o l d) text → Takes (st Factor f n e o l d) (m ++ text)
   whole_name f n e o l d [] text h k = absurd h
   whole_name f n e o l d (b ∷ bs) text h k =
       let no_bracket : (b == 93) ≡ false = apart 93 is_ascii_alphabetic b (b == 93) refl refl h.0 in
@@ -77,7 +83,8 @@ module _ (ty : Types) where
       let same : step_by Name ty (st Name f n e o l d) b ≡ follow_by (st After f n (may_end (kind_named ty n)) (may_open (kind_named ty n)) l d) b = rw (nb, r, nq) refl in
       λ i. ap (λ (x : Option State). or_place x i (λ u. place_from ty (i + 1) u bs)) same ∙ k i
 
-  named_at : (f : Bool) (n : List ℕ) (e o : Bool) (l d b : ℕ) (bs : List ℕ) (x y z : Bool) → (b == 91) ≡ x → (b == 93) ≡ y → (b == 42) ≡ z → is_reserved n ≡ false →
+  named_at : (f : Bool) (n : List ℕ) (e o : Bool) (l d b : ℕ) (bs : List ℕ) (x y z : Bool) →
+      (b == 91) ≡ x → (b == 93) ≡ y → (b == 42) ≡ z → is_reserved n ≡ false →
       Takes (st After f n (may_end (kind_named ty n)) (may_open (kind_named ty n)) l d) (b ∷ bs) → Takes (st Name f n e o l d) (b ∷ bs)
   named_at f n e o l d b bs true y z hx hy hz r k = named_by f n e o l d b bs r (ap is_name_byte (is_it b 91 hx)) (ap (λ (c : ℕ). c == 39) (is_it b 91 hx)) k
   named_at f n e o l d b bs false true z hx hy hz r k = named_by f n e o l d b bs r (ap is_name_byte (is_it b 93 hy)) (ap (λ (c : ℕ). c == 39) (is_it b 93 hy)) k
@@ -91,7 +98,8 @@ module _ (ty : Types) where
   named f n e o l d [] r k = k
   named f n e o l d (b ∷ bs) r k = named_at f n e o l d b bs (b == 91) (b == 93) (b == 42) refl refl refl r k
 
-  quoted : (f : Bool) (n : List ℕ) (e o : Bool) (l d : ℕ) (p : Option (List (List ℕ))) (text : List ℕ) → 0 < ty.dims → is_reserved n ≡ false → IsMulti ty.dims p →
+  quoted : (f : Bool) (n : List ℕ) (e o : Bool) (l d : ℕ) (p : Option (List (List ℕ))) (text : List ℕ) →
+      0 < ty.dims → is_reserved n ≡ false → IsMulti ty.dims p →
       ((k : ℕ) → Takes (st After f n (may_end (kind_named ty n)) (may_open (kind_named ty n)) k d) text) → Takes (st Name f n e o l d) (quoted_onto p text)
   quoted f n e o l d None text w r h k = named f n e o l d text r (k l)
   quoted f n e o l d (Some es) text w r h k =
@@ -127,7 +135,9 @@ module _ (ty : Types) where
       (entries true x true false (ty.dims - 1) (suc d) es rest (omega (arith, w, h.0)) h.1
       (b.starred d (93 ∷ text) (λ f m o l. go (st After f m true o l (suc d)) 93 (closed (st After f m true o l (suc d))) text refl (c After f m true o l)) true x false 0)))
 
-  closes_inner : (d : ℕ) (text : List ℕ) → Ends d text → (a : At) (f : Bool) (n : List ℕ) (e o : Bool) (l : ℕ) → Takes (closed (st a f n e o l (suc (suc d)))) text
+  closes_inner : (d : ℕ) (text : List ℕ) → Ends d text →
+      (a : At) (f : Bool) (n : List ℕ) (e o : Bool) (l : ℕ) →
+      Takes (closed (st a f n e o l (suc (suc d)))) text
   closes_inner d text h a f n e o l =
       let more : nat_lt 1 (suc (suc d)) ≡ true = grind (arith, nat_tests) in
       let less : suc (suc d) - 1 ≡ suc d = omega arith in

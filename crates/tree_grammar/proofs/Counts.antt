@@ -86,7 +86,8 @@ module _ (ty : Types) where
   known_name : (n : List ℕ) → is_name n ≡ true → is_some (number_named ty n) ≡ true → count_if (is_unknown ty n) ≡ 0
   known_name n h k = rw (h, k) refl
 
-  name_known : (n : List ℕ) (b : Bool) → is_name n ≡ true → is_some (number_named ty n) ≡ b → count_if (is_unknown ty n) ≡ 0 → is_some (number_named ty n) ≡ true
+  name_known : (n : List ℕ) (b : Bool) → is_name n ≡ true → is_some (number_named ty n) ≡ b →
+      count_if (is_unknown ty n) ≡ 0 → is_some (number_named ty n) ≡ true
   name_known n true h e k = e
   name_known n false h e k = let w : 1 ≡ 0 = rw (h, e) at k in absurd (omega (arith, w))
 
@@ -120,7 +121,8 @@ module _ (ty : Types) where
   none_from [] i h = refl
   none_from (b ∷ bs) i h = none-from-at i b bs (is_name_byte b) (is_unknown ty (word bs)) refl refl h (none_from bs)
 
-  from-none-at : (i b : ℕ) (bs : List ℕ) (x y : Bool) → is_name_byte b ≡ x → is_unknown ty (word bs) ≡ y → words_sum (λ w. count_if (is_unknown ty w)) (b ∷ bs) ≡ 0 →
+  from-none-at : (i b : ℕ) (bs : List ℕ) (x y : Bool) → is_name_byte b ≡ x →
+      is_unknown ty (word bs) ≡ y → words_sum (λ w. count_if (is_unknown ty w)) (b ∷ bs) ≡ 0 →
       ((j : ℕ) → words_sum (λ w. count_if (is_unknown ty w)) bs ≡ 0 → unknown_from ty j bs ≡ None) → unknown_from ty i (b ∷ bs) ≡ None
   from-none-at i b bs true y hx hy h ih = rw hx (ih (i + 1) (rw hx at h))
   from-none-at i b bs false true hx hy h ih =

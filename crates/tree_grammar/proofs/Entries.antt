@@ -37,7 +37,8 @@ unwritten : (k : ℕ) → entries_at k [] ≡ values k []
 unwritten zero = refl
 unwritten (suc k) = rw (value_empty, unwritten k) refl
 
-pub entries_values : (k : ℕ) (es : List (List ℕ)) (s : List ℕ) → 0 < length es → length es ≤ k → AllByRecursion IsNumber es → entries_at k (entries_onto es s) ≡ values k es
+pub entries_values : (k : ℕ) (es : List (List ℕ)) (s : List ℕ) → 0 < length es → length es ≤ k →
+    AllByRecursion IsNumber es → entries_at k (entries_onto es s) ≡ values k es
 entries_values zero [] s some l h = absurd (omega arith)
 entries_values zero (v ∷ es) s some l h = absurd (omega arith)
 entries_values (suc k) [] s some l h = absurd (omega arith)
@@ -47,7 +48,8 @@ entries_values (suc k) (v ∷ w ∷ es) s some l h =
     let rest = entries_onto (w ∷ es) s in
     rw (value_of v (44 ∷ rest) h.0 refl, next_of v (44 ∷ rest) h.0 refl) (ap (λ (m : List ℕ). entry_value v ∷ m) (entries_values k (w ∷ es) s (omega arith) (omega arith) h.1))
 
-pub entries_law : (es : List (List ℕ)) (s : List ℕ) → 0 < length es → length es ≤ 5 → AllByRecursion IsNumber es → entries_at 5 (entries_onto es s) ≡ multi_of (Some es)
+pub entries_law : (es : List (List ℕ)) (s : List ℕ) → 0 < length es → length es ≤ 5 →
+    AllByRecursion IsNumber es → entries_at 5 (entries_onto es s) ≡ multi_of (Some es)
 entries_law es s some l h = entries_values 5 es s some l h
 
 digit_bytes : (ds : List ℕ) → AllDigits 10 ds → AllByRecursion (λ c. is_ascii_digit c ≡ true) ds

@@ -24,7 +24,9 @@ module _ (ty : Types) where
   live s h = live-kept ty s.at s.first s.name s.ends s.opens s.left s.depth h
 
   -- a step in the function
-  stepped : (s : State) (b : ℕ) (o : Option State) → step_by s.at ty s b ≡ o → (j : ℕ) (bs : List ℕ) → place_from ty j s (b ∷ bs) ≡ or_place o j (λ u. place_from ty (j + 1) u bs)
+  stepped : (s : State) (b : ℕ) (o : Option State) → step_by s.at ty s b ≡ o →
+      (j : ℕ) (bs : List ℕ) →
+      place_from ty j s (b ∷ bs) ≡ or_place o j (λ u. place_from ty (j + 1) u bs)
   stepped s b o h j bs = ap (λ (x : Option State). or_place x j (λ u. place_from ty (j + 1) u bs)) h
 
   none_is_some : (j : ℕ) → Some j ≡ None → ⊥

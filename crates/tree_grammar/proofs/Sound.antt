@@ -144,10 +144,12 @@ module _ (ty : Types) where
       ended k bs (inl h) = h.1
       ended k bs (inr h) = let e : false ≡ true = h.0 in absurd cc
 
-  opened_says : (k : ℕ) (a : At) (f : Bool) (n : List ℕ) (e o : Bool) (l : ℕ) (bs : List ℕ) → Says bs → Taken (opened (st a f n e o l (suc k))) bs → Inner (suc k) bs
+  opened_says : (k : ℕ) (a : At) (f : Bool) (n : List ℕ) (e o : Bool) (l : ℕ) (bs : List ℕ) →
+      Says bs → Taken (opened (st a f n e o l (suc k))) bs → Inner (suc k) bs
   opened_says k a f n e o l bs ih w = let more : suc k + 1 ≡ suc (suc k) = omega arith in ih.factor (suc k) true n e o l (rw more at w)
 
-  follow_at : (k : ℕ) (f : Bool) (n : List ℕ) (e o : Bool) (l b : ℕ) (bs : List ℕ) (x y z : Bool) → (b == 91 && o) ≡ x → (b == 93 && e) ≡ y → (b == 42 && e) ≡ z → Says bs →
+  follow_at : (k : ℕ) (f : Bool) (n : List ℕ) (e o : Bool) (l b : ℕ) (bs : List ℕ) (x y z : Bool) →
+      (b == 91 && o) ≡ x → (b == 93 && e) ≡ y → (b == 42 && e) ≡ z → Says bs →
       Taken (st After f n e o l (suc k)) (b ∷ bs) → Next e o k (b ∷ bs)
   follow_at k f n e o l b bs true y z hx hy hz ih w =
       let s : State = st After f n e o l (suc k) in
@@ -166,7 +168,8 @@ module _ (ty : Types) where
   follow_at k f n e o l b bs false false false hx hy hz ih w = absurd (dead (st After f n e o l (suc k)) b bs (rw (hx, hy, hz) refl) w)
 
   -- one more digit in front
-  prepend : (l d : ℕ) (e o : Bool) (c : ℕ) (text : List ℕ) (es : List (List ℕ)) (after : List ℕ) → is_ascii_digit c ≡ true → length es ≡ suc l → AllByRecursion IsNumber es →
+  prepend : (l d : ℕ) (e o : Bool) (c : ℕ) (text : List ℕ) (es : List (List ℕ)) (after : List ℕ) →
+      is_ascii_digit c ≡ true → length es ≡ suc l → AllByRecursion IsNumber es →
       text ≡ entries_onto es after → Next e o d after → Rest l d e o (c ∷ text)
   prepend l d e o c text [] after h long num is next = absurd (omega (arith, long))
   prepend l d e o c text ([] ∷ es) after h long num is next = absurd num.0
@@ -175,13 +178,15 @@ module _ (ty : Types) where
   prepend l d e o c text ((y ∷ ys) ∷ z ∷ es) after h long num is next =
       record { es = (c ∷ y ∷ ys) ∷ z ∷ es; long = long; numbers = ((h, num.0), num.1); after = after; is = ap (λ (s : List ℕ). c ∷ s) is; next = next }
 
-  comma : (l d : ℕ) (e o : Bool) (c : ℕ) (text : List ℕ) (es : List (List ℕ)) (after : List ℕ) → is_ascii_digit c ≡ true → length es ≡ suc l → AllByRecursion IsNumber es →
+  comma : (l d : ℕ) (e o : Bool) (c : ℕ) (text : List ℕ) (es : List (List ℕ)) (after : List ℕ) →
+      is_ascii_digit c ≡ true → length es ≡ suc l → AllByRecursion IsNumber es →
       text ≡ entries_onto es after → Next e o d after → Rest (suc l) d e o (c ∷ 44 ∷ text)
   comma l d e o c text [] after h long num is next = absurd (omega (arith, long))
   comma l d e o c text (x ∷ es) after h long num is next =
       record { es = (c ∷ []) ∷ x ∷ es; long = omega (arith, long); numbers = ((h, tt), num); after = after; is = ap (λ (s : List ℕ). c ∷ 44 ∷ s) is; next = next }
 
-  digits_at : (k : ℕ) (f : Bool) (n : List ℕ) (e o : Bool) (l c b : ℕ) (bs : List ℕ) (x y z : Bool) → is_ascii_digit b ≡ x → (b == 44) ≡ y → (b == 41) ≡ z → Says bs → is_ascii_digit c ≡ true →
+  digits_at : (k : ℕ) (f : Bool) (n : List ℕ) (e o : Bool) (l c b : ℕ) (bs : List ℕ) (x y z : Bool) →
+      is_ascii_digit b ≡ x → (b == 44) ≡ y → (b == 41) ≡ z → Says bs → is_ascii_digit c ≡ true →
       Taken (st Digits f n e o l (suc k)) (b ∷ bs) → Rest l k e o (c ∷ b ∷ bs)
   digits_at k f n e o l c b bs true y z hx hy hz ih h w =
       let s : State = st Digits f n e o l (suc k) in
@@ -206,17 +211,23 @@ module _ (ty : Types) where
       absurd (dead (st Digits f n e o (suc l) (suc k)) b bs (rw (hx, hy, hz, none) refl) w)
   digits_at k f n e o l c b bs false false false hx hy hz ih h w = absurd (dead (st Digits f n e o l (suc k)) b bs (rw (hx, hy, hz) refl) w)
 
-  entry_at : (k : ℕ) (f : Bool) (n : List ℕ) (e o : Bool) (l b : ℕ) (bs : List ℕ) (x : Bool) → is_ascii_digit b ≡ x → Says bs → Taken (st Entry f n e o l (suc k)) (b ∷ bs) → Rest l k e o (b ∷ bs)
+  entry_at : (k : ℕ) (f : Bool) (n : List ℕ) (e o : Bool) (l b : ℕ) (bs : List ℕ) (x : Bool) →
+      is_ascii_digit b ≡ x → Says bs → Taken (st Entry f n e o l (suc k)) (b ∷ bs) →
+      Rest l k e o (b ∷ bs)
   entry_at k f n e o l b bs true h ih w = ih.digits k f n e o l b h (peel (st Entry f n e o l (suc k)) b (st Digits f n e o l (suc k)) bs (rw h refl) w)
   entry_at k f n e o l b bs false h ih w = absurd (dead (st Entry f n e o l (suc k)) b bs (rw h refl) w)
 
-  quote_at : (k : ℕ) (f : Bool) (n : List ℕ) (e o : Bool) (l b : ℕ) (bs : List ℕ) (x : Bool) → 0 < ty.dims → (b == 40) ≡ x → Says bs → Taken (st Quote f n e o l (suc k)) (b ∷ bs) → Quoted k e o (b ∷ bs)
+  quote_at : (k : ℕ) (f : Bool) (n : List ℕ) (e o : Bool) (l b : ℕ) (bs : List ℕ) (x : Bool) →
+      0 < ty.dims → (b == 40) ≡ x → Says bs → Taken (st Quote f n e o l (suc k)) (b ∷ bs) →
+      Quoted k e o (b ∷ bs)
   quote_at k f n e o l b bs true v h ih w =
       let r = ih.entry k f n e o (ty.dims - 1) (peel (st Quote f n e o l (suc k)) b (st Entry f n e o (ty.dims - 1) (suc k)) bs (rw h refl) w) in
       rw (is_byte b 40 h) record { es = r.es; multi = (omega (arith, v, r.long), r.numbers); after = r.after; is = ap (λ (s : List ℕ). 40 ∷ s) r.is; next = r.next }
   quote_at k f n e o l b bs false v h ih w = absurd (dead (st Quote f n e o l (suc k)) b bs (rw h refl) w)
 
-  factor_at : (k : ℕ) (f : Bool) (n : List ℕ) (e o : Bool) (l b : ℕ) (bs : List ℕ) (x y : Bool) → (b == 93 && f) ≡ x → is_ascii_alphabetic b ≡ y → Says bs → Taken (st Factor f n e o l (suc k)) (b ∷ bs) → Here f k (b ∷ bs)
+  factor_at : (k : ℕ) (f : Bool) (n : List ℕ) (e o : Bool) (l b : ℕ) (bs : List ℕ) (x y : Bool) →
+      (b == 93 && f) ≡ x → is_ascii_alphabetic b ≡ y → Says bs →
+      Taken (st Factor f n e o l (suc k)) (b ∷ bs) → Here f k (b ∷ bs)
   factor_at k true n e o l b bs true y hx hy ih w =
       let s : State = st Factor true n e o l (suc k) in
       let t = and_parts (b == 93) true hx in
@@ -230,7 +241,8 @@ module _ (ty : Types) where
   ended_tail k text (inl h) = h.1
   ended_tail k text (inr h) = let e : false ≡ true = h.0 in absurd cc
 
-  all_more : (n : List ℕ) (b : ℕ) → AllByRecursion (λ c. is_name_byte c ≡ true) n → is_name_byte b ≡ true → AllByRecursion (λ c. is_name_byte c ≡ true) (n ++ b ∷ [])
+  all_more : (n : List ℕ) (b : ℕ) → AllByRecursion (λ c. is_name_byte c ≡ true) n →
+      is_name_byte b ≡ true → AllByRecursion (λ c. is_name_byte c ≡ true) (n ++ b ∷ [])
   all_more [] b h j = (j, tt)
   all_more (c ∷ n) b h j = (h.0, all_more n b h.1 j)
 
@@ -244,7 +256,9 @@ module _ (ty : Types) where
   whole [] h r = absurd h
   whole (c ∷ n) h r = (h.0, h.1, h.2, r)
 
-  root_at : (k : ℕ) (f : Bool) (n : List ℕ) (b : ℕ) (bs : List ℕ) → 0 < ty.dims → (b == 40) ≡ true → f ≡ true → bytes_eq n (88 ∷ []) ≡ true → Rest (ty.dims - 1) k true false bs → Here f k (n ++ b ∷ bs)
+  root_at : (k : ℕ) (f : Bool) (n : List ℕ) (b : ℕ) (bs : List ℕ) → 0 < ty.dims → (b == 40) ≡ true →
+      f ≡ true → bytes_eq n (88 ∷ []) ≡ true → Rest (ty.dims - 1) k true false bs →
+      Here f k (n ++ b ∷ bs)
   root_at k true n b bs v hb hf hn r =
       let it : n ≡ 88 ∷ [] = (bytes_eq-Decides n (88 ∷ [])).0 hn in
       let es = r.es in
@@ -303,7 +317,9 @@ module _ (ty : Types) where
         digits = λ k f n e o l c h w. digits_at k f n e o l c b bs (is_ascii_digit b) (b == 44) (b == 41) refl refl refl ih h w;
       }
 
-  start_at : (b : ℕ) (bs : List ℕ) (x : Bool) → (b == 91) ≡ x → 0 < ty.dims → Taken (st Start false [] false false 0 0) (b ∷ bs) → (t : Written) × IsGrammatical ty t × (b ∷ bs ≡ written_text t)
+  start_at : (b : ℕ) (bs : List ℕ) (x : Bool) → (b == 91) ≡ x → 0 < ty.dims →
+      Taken (st Start false [] false false 0 0) (b ∷ bs) →
+      (t : Written) × IsGrammatical ty t × (b ∷ bs ≡ written_text t)
   start_at b bs true h d w =
       let i = (says bs d).factor 0 true [] false false 0 (peel (st Start false [] false false 0 0) b (st Factor true [] false false 0 1) bs (rw h refl) w) in
       (i.0, i.2, ap (λ (c : ℕ). c ∷ bs) (is_byte b 91 h) ∙ ap (λ (s : List ℕ). 91 ∷ s) (i.3 ∙ ap (λ (s : List ℕ). inside (written_root i.0) i.0 (starred_onto i.0 (93 ∷ s))) i.4))

@@ -1,9 +1,23 @@
 -- The grammar of tree texts.
---   Written == what is written: edges with name, multiindex if one is written, and subtree if one is written; at the end the root's multiindex, if one is written
+--   Written == what is written: edges with name, multiindex if one is written, and subtree if one
+--       is written (`leaf` without, `planted` with one); at the end the multiindex of the root, if
+--       one is written
+--   entries_onto es s == the entries es, joined by commas, and `)`, in front of s
+--   quoted_onto p s == the multiindex of an edge, if one is written, behind `'(`, in front of s
+--   written_root t == the multiindex of the root of t
+--   unstarred t s == s without the `*` of the first of the edges of t, where there is one
+--   inside x t s == what stands in the brackets of t: `X` and the multiindex x of its root, if one
+--       is written, and its edges s
+--   starred_onto t s == the edges of t, each after a `*`, in front of s
 --   written_text t == its text
---   kind_named ty n == whether the first type with this name is a noise or a kernel, where there is such a type
---   IsGrammatical ty t == names are names, a number has a digit or more, a multiindex has as many numbers as there are directions,
---                         a noise has no subtree, a kernel has one, and a name of no type may have one
+--   IsNumber ds == ds is a digit or more, and nothing else
+--   IsMulti dims x == x is not written, or has as many numbers as there are directions
+--   number_named ty n == the number of the first type with this name
+--   kind_named ty n == whether that is a noise or a kernel, where there is such a type
+--   may_end kind, may_open kind == an edge of this kind, or of no type, may stand without a
+--       subtree; with one
+--   IsGrammatical ty t == names are names, numbers are numbers, multiindices are such, a noise has
+--       no subtree, a kernel has one, and a name of no type may have one
 use Rattle.std.specs.Prelude.{◌≡◌, ℕ, Bool, true, false, List, [], ◌∷◌, ◌++◌, drop, length, Option, Some, None}
 use Rattle.std.specs.List.{AllByRecursion, position}
 use Rattle.std.specs.Option.{option_and_then}
@@ -18,7 +32,8 @@ use Rattle.degree_numbers.specs.declared.types.Kind.TheVariants.{Noise, Kernel}
 pub data Written : Type 0 where
   root : (x : Option (List (List ℕ))) → Written
   leaf : (name : List ℕ) → (p : Option (List (List ℕ))) → (rest : Written) → Written
-  planted : (name : List ℕ) → (p : Option (List (List ℕ))) → (child : Written) → (rest : Written) → Written
+  planted : (name : List ℕ) → (p : Option (List (List ℕ))) → (child : Written) → (rest : Written) →
+      Written
 
 -- texts in front of what follows: the entries after `(`, and an edge's multiindex
 abbrev pub entries_onto : List (List ℕ) → List ℕ → List ℕ
@@ -49,7 +64,9 @@ inside (Some es) t s = 88 ∷ 40 ∷ entries_onto es s
 abbrev pub starred_onto : Written → List ℕ → List ℕ
 starred_onto (root x) s = s
 starred_onto (leaf n p t) s = 42 ∷ (n ++ quoted_onto p (starred_onto t s))
-starred_onto (planted n p c t) s = 42 ∷ (n ++ quoted_onto p (91 ∷ inside (written_root c) c (starred_onto c (93 ∷ starred_onto t s))))
+starred_onto (planted n p c t) s =
+    42 ∷ (n
+    ++ quoted_onto p (91 ∷ inside (written_root c) c (starred_onto c (93 ∷ starred_onto t s))))
 
 abbrev pub written_text : Written → List ℕ
 written_text t = 91 ∷ inside (written_root t) t (starred_onto t (93 ∷ []))
@@ -83,5 +100,7 @@ may_open (Some Kernel) = true
 
 abbrev pub IsGrammatical : Types → Written → Type 0
 IsGrammatical ty (root x) = IsMulti ty.dims x
-IsGrammatical ty (leaf n p t) = (is_name n ≡ true) × IsMulti ty.dims p × (may_end (kind_named ty n) ≡ true) × IsGrammatical ty t
-IsGrammatical ty (planted n p c t) = (is_name n ≡ true) × IsMulti ty.dims p × (may_open (kind_named ty n) ≡ true) × IsGrammatical ty c × IsGrammatical ty t
+IsGrammatical ty (leaf n p t) = (is_name n ≡ true) × IsMulti ty.dims p
+    × (may_end (kind_named ty n) ≡ true) × IsGrammatical ty t
+IsGrammatical ty (planted n p c t) = (is_name n ≡ true) × IsMulti ty.dims p
+    × (may_open (kind_named ty n) ≡ true) × IsGrammatical ty c × IsGrammatical ty t

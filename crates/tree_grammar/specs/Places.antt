@@ -1,7 +1,8 @@
 -- Where a text stops being the beginning of a tree's text.
 --   IsTreeText ty text == a text of the grammar
 --   IsFront ty front == some tree text begins so
---   IsPlace ty text i == the first i bytes begin some tree text and the first i + 1 begin none, or the text is too short
+--   IsPlace ty text i == the first i bytes begin some tree text and the first i + 1 begin none, or
+--       the text is too short
 use Rattle.std.specs.Prelude.{◌≡◌, ℕ, ◌+◌, ◌<◌, ◌≤◌, List, ◌++◌, length, take}
 use Rattle.tree_grammar.specs.Grammar.{Written, IsGrammatical, written_text}
 use Rattle.degree_numbers.specs.declared.types.Types.{Types}

@@ -1,16 +1,26 @@
--- The words of a text: letters, digits and `_` that stand together. In a tree text they are the names of the edges, `X` and the numbers.
+-- The words of a text: letters, digits and `_` that stand together. In a tree text they are the
+-- names of the edges, `X` and the numbers.
 --   word text == the word at its front, which may be empty
 --   words_sum f text == the sum of f over the words that stand after each other byte
---   entry_value text == the number that the digits at the front write; one past 2^31-1 counts as 2^31-1
+--   entry_value text == the number that the digits at the front write; one past 2^31-1 counts as
+--       2^31-1
+--   count_if b == 1 where b holds, else 0
 --   edges_in text == how many of the words are names
 --   decorations_in text == the sum of its numbers, which stops at 2^32-1
 --   is_unknown ty w == w is a name, and that of no type
---   first_unknown ty text == the place of the first byte of the first unknown name
+--   unknown_from ty i text == the place of the first byte of the first unknown name, where the
+--       first byte of text has place i
+--   first_unknown ty text == the same where it has place 0
 --   edges_of t == the number of edges of a written tree
+--   entries_sum f es, multi_sum f x == the sum of f over the entries es; over those of a
+--       multiindex, where it is written
 --   decorations_of t == the sum of the numbers in its multiindices
 --   AreKnown ty t == the names of its edges are names of types
+--   behind_comma text == what stands behind a comma at the front
 --   next_entry text == what stands behind the word at the front and a comma
---   entries_at k text == the numbers at the front, joined by commas, as k entries; those that are not written are 0
+--   entries_at k text == the numbers at the front, joined by commas, as k entries; those that are
+--       not written are 0
+--   values k es == the first k of the entries es as numbers; those that are not there are 0
 --   multi_of x == the five entries of a written multiindex; those that are not written are 0
 use Rattle.std.specs.Prelude.{◌≡◌, ◌==◌, ℕ, zero, suc, drop, length, ◌+◌, ◌-◌, ◌^◌, Bool, true, false, not, ◌&&◌, if◌then◌else◌, is_some, min, List, [], ◌∷◌, Option, Some, None}
 use Rattle.std.specs.List.{take_while}
@@ -46,7 +56,8 @@ is_unknown ty w = is_name w && not (is_some (number_named ty w))
 -- the first byte here has place i
 abbrev pub unknown_from : Types → ℕ → List ℕ → Option ℕ
 unknown_from ty i [] = None
-unknown_from ty i (b ∷ bs) = if not (is_name_byte b) && is_unknown ty (word bs) then Some (i + 1) else unknown_from ty (i + 1) bs
+unknown_from ty i (b ∷ bs) = if not (is_name_byte b) && is_unknown ty (word bs) then Some (i + 1)
+    else unknown_from ty (i + 1) bs
 
 abbrev pub first_unknown : Types → List ℕ → Option ℕ
 first_unknown ty text = unknown_from ty 0 text

@@ -1,4 +1,5 @@
-//! The grammar of tree texts, and where a text leaves it.
+//! The grammar of tree texts, and where a text leaves it. No tree is made here: a text is judged
+//! byte by byte, before one is.
 #![tactic(auto)]
 
 mod name_bytes;

@@ -37,7 +37,8 @@ fn stop(types: &Types, text: &[u8]) -> Option<usize>
 /// The place where a text stops being the beginning of a tree text; `None` for a tree text.
 pub fn place(types: &Types, text: &[u8]) -> Option<usize>
     requires { 0 < types.now.dims }
-    ensures { MatchOption result (IsTreeText types.now text.now) (λ i. IsPlace types.now text.now i) }
+    ensures { MatchOption result (IsTreeText types.now text.now)
+        (λ i. IsPlace types.now text.now i) }
 {
     match stop(types, text) {
         Some(i) => Some(i),
@@ -46,5 +47,6 @@ pub fn place(types: &Types, text: &[u8]) -> Option<usize>
 }
 /// A text has one such place at most.
 pub fn place_law()
-    ensures { (ty : Types) (text : List ℕ) (i j : ℕ) → IsPlace ty text i → IsPlace ty text j → i ≡ j }
+    ensures { (ty : Types) (text : List ℕ) (i j : ℕ) → IsPlace ty text i → IsPlace ty text j →
+        i ≡ j }
 {}

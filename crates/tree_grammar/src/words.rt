@@ -97,7 +97,8 @@ fn next_entry(text: &[u8]) -> &[u8]
     }
 }
 
-/// The multiindex that the numbers at the front write, joined by commas, five at most. Entries that are not written are 0.
+/// The multiindex that the numbers at the front write, joined by commas, five at most. Entries that
+/// are not written are 0.
 pub fn multi_at(text: &[u8]) -> Multi
     ensures entries { result.entries ≡ entries_at 5 text.now }
 {
@@ -116,11 +117,15 @@ pub fn multi_at(text: &[u8]) -> Multi
     }
 }
 
-/// What the words of a written tree's text say of it: they count its edges, sum up its decorations, give the entries of a multiindex, and show whether a name is
-/// that of no type.
+/// What the words of a written tree's text say of it: they count its edges, sum up its decorations,
+/// give the entries of a multiindex, and show whether a name is that of no type.
 pub fn word_laws()
-    ensures edges { (ty : Types) (t : Written) → 0 < ty.dims → IsGrammatical ty t → edges_in (written_text t) ≡ edges_of t }
-    ensures decorations { (ty : Types) (t : Written) → 0 < ty.dims → IsGrammatical ty t → decorations_in (written_text t) ≡ min (decorations_of t) (2 ^ 32 - 1) }
-    ensures entries { (es : List (List ℕ)) (rest : List ℕ) → 0 < length es → length es ≤ 5 → AllByRecursion IsNumber es → entries_at 5 (entries_onto es rest) ≡ multi_of (Some es) }
-    ensures unknown { (ty : Types) (t : Written) → 0 < ty.dims → IsGrammatical ty t → first_unknown ty (written_text t) ≡ None ↔ AreKnown ty t }
+    ensures edges { (ty : Types) (t : Written) → 0 < ty.dims → IsGrammatical ty t →
+        edges_in (written_text t) ≡ edges_of t }
+    ensures decorations { (ty : Types) (t : Written) → 0 < ty.dims → IsGrammatical ty t →
+        decorations_in (written_text t) ≡ min (decorations_of t) (2 ^ 32 - 1) }
+    ensures entries { (es : List (List ℕ)) (rest : List ℕ) → 0 < length es → length es ≤ 5 →
+        AllByRecursion IsNumber es → entries_at 5 (entries_onto es rest) ≡ multi_of (Some es) }
+    ensures unknown { (ty : Types) (t : Written) → 0 < ty.dims → IsGrammatical ty t →
+        first_unknown ty (written_text t) ≡ None ↔ AreKnown ty t }
 {}

@@ -41,7 +41,9 @@ base_of p empty = one_if (is_not_above (node_at p 0).reserve p.most) (base_stem 
 
 module _ (eq : Equation) (rule : Rule) (plan : RulePlan) (c : Content) (empty : TreeId) where
   -- what the plan says of the empty node type
-  first_node : (p : RowPlan) (row : RuleRow) → IsSetting eq rule plan c empty → IsIn row rule.rows → IsRowPlan eq plan.lows plan.mosts row p → (q : PlanNode) × (slice_get p.nodes 0 ≡ Some q) × IsNodePlan eq plan.lows row empty_node q
+  first_node : (p : RowPlan) (row : RuleRow) → IsSetting eq rule plan c empty → IsIn row rule.rows →
+      IsRowPlan eq plan.lows plan.mosts row p →
+      (q : PlanNode) × (slice_get p.nodes 0 ≡ Some q) × IsNodePlan eq plan.lows row empty_node q
   first_node p row set m planned = node_plan_at eq plan.lows row row.nodes p.nodes 0 empty_node planned.nodes (empty_first eq rule row set.normal m)
 
   pub base_some : (p : RowPlan) (r : ℕ) → IsSetting eq rule plan c empty → r < length plan.rows → p ≡ get_or plan.rows r p → 0 < length p.nodes
@@ -71,7 +73,10 @@ module _ (eq : Equation) (rule : Rule) (plan : RulePlan) (c : Content) (empty : 
   empty_degree : (r : Degree) → degree_plus (degree_of eq.types empty_tree) r ≡ r
   empty_degree r = ap (λ (d : Degree). degree_plus d r) (zeros_degree eq.types) ∙ zero_plus r
 
-  pub base_are : (p : RowPlan) (r : ℕ) (row : RuleRow) (stems : List Stem) → IsSetting eq rule plan c empty → r < length plan.rows → p ≡ get_or plan.rows r p → slice_get rule.rows r ≡ Some row → stems ≡ base_of p empty → AreSprouts eq rule plan row 0 (sprouts c stems)
+  pub base_are : (p : RowPlan) (r : ℕ) (row : RuleRow) (stems : List Stem) →
+      IsSetting eq rule plan c empty → r < length plan.rows → p ≡ get_or plan.rows r p →
+      slice_get rule.rows r ≡ Some row → stems ≡ base_of p empty →
+      AreSprouts eq rule plan row 0 (sprouts c stems)
   base_are p r row stems set h at is made =
       let given = row_planned eq rule plan c empty p r set h at in
       let same : given.0 ≡ row = some_same given.0 row (sym given.1 ∙ is) in

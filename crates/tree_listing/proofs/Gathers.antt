@@ -91,7 +91,9 @@ module _ (eq : Equation) (rule : Rule) (plan : RulePlan) where
   candidate_possible : (t : Plain) → IsCandidate eq rule t → is_possible eq.types t ≡ true
   candidate_possible t h = both (nat_lt 0 (edge_count_of t)) (not (planted eq.types t)) (edge_test (edge_count_of t) h.edge) (unplanted_test (planted eq.types t) h.unplanted)
 
-  sound_possible : (g : Gathered) (t : Plain) (o : Ordering) → degree_order (degree_of eq.types t) degree_zero ≡ o → IsAny t → IsCandidate eq rule t → IsSound eq rule g → IsSound eq rule (with_possible eq.types o g t)
+  sound_possible : (g : Gathered) (t : Plain) (o : Ordering) →
+      degree_order (degree_of eq.types t) degree_zero ≡ o → IsAny t → IsCandidate eq rule t →
+      IsSound eq rule g → IsSound eq rule (with_possible eq.types o g t)
   sound_possible g t Less e h k s =
       let listed : IsListed eq rule t = record { candidate = k; negative = e } in record {
         ascending = insert_key_sorted (listing_order eq.types) (listing_order_total eq.types) g.listed t s.ascending;
@@ -122,7 +124,9 @@ module _ (eq : Equation) (rule : Rule) (plan : RulePlan) where
         | false ↦ λ e. s
       ]) refl
 
-  with_is : (g : Gathered) (t : Plain) (o : Ordering) → IsCandidate eq rule t → degree_order (degree_of eq.types t) degree_zero ≡ o → with_tree eq.types g t ≡ with_possible eq.types o g t
+  with_is : (g : Gathered) (t : Plain) (o : Ordering) → IsCandidate eq rule t →
+      degree_order (degree_of eq.types t) degree_zero ≡ o →
+      with_tree eq.types g t ≡ with_possible eq.types o g t
   with_is g t o k e =
       ap (λ b. if b then with_possible eq.types (degree_order (degree_of eq.types t) degree_zero) g t else g) (candidate_possible t k) ∙ ap (λ p. with_possible eq.types p g t) e
 
@@ -157,7 +161,8 @@ module _ (eq : Equation) (rule : Rule) (plan : RulePlan) where
   covers_all g (t ∷ ts) u (inl e) = subst (Covers eq rule (with_trees eq.types (with_tree eq.types g t) ts)) e (more_all (with_tree eq.types g t) ts t (covers_with g t))
   covers_all g (t ∷ ts) u (inr m) = covers_all (with_tree eq.types g t) ts u m
 
-  pub overfull_many : (g : Gathered) (ts : List Plain) → ((t : Plain) → IsIn t ts → IsAny t) → IsSound eq rule g → IsOverfull eq.types g ts → HasTooManyTrees eq rule
+  pub overfull_many : (g : Gathered) (ts : List Plain) → ((t : Plain) → IsIn t ts → IsAny t) →
+      IsSound eq rule g → IsOverfull eq.types g ts → HasTooManyTrees eq rule
   overfull_many g ts h s o =
       let sound = sound_all g o.first (λ t m. h t (subst (IsIn t) (sym o.all) (in_append_left t o.first o.rest m))) s in record {
         trees = (with_trees eq.types g o.first).listed;
@@ -168,17 +173,25 @@ module _ (eq : Equation) (rule : Rule) (plan : RulePlan) where
       }
 
   -- what the wholes of a row do, in the terms of the pool before the stems and after the wholes
-  pub row_sound : (c d e : Content) (f new : Found) (ts : List Plain) → IsGrown c d → IsFoundIn c f → d.types ≡ eq.types → ((t : Plain) → IsIn t ts → IsAny t) → IsSound eq rule (gathered c f) → gathered e new ≡ with_trees d.types (gathered d f) ts →
+  pub row_sound : (c d e : Content) (f new : Found) (ts : List Plain) → IsGrown c d →
+      IsFoundIn c f → d.types ≡ eq.types → ((t : Plain) → IsIn t ts → IsAny t) →
+      IsSound eq rule (gathered c f) → gathered e new ≡ with_trees d.types (gathered d f) ts →
       IsSound eq rule (gathered e new)
   row_sound c d e f new ts g h types any s is = subst (IsSound eq rule) (sym (is ∙ rw (types, gathered-grown c d f g h) refl)) (sound_all (gathered c f) ts any s)
 
-  pub row_covers : (c d e : Content) (f new : Found) (ts : List Plain) (u : Plain) → IsGrown c d → IsFoundIn c f → d.types ≡ eq.types → gathered e new ≡ with_trees d.types (gathered d f) ts → IsIn u ts → Covers eq rule (gathered e new) u
+  pub row_covers : (c d e : Content) (f new : Found) (ts : List Plain) (u : Plain) → IsGrown c d →
+      IsFoundIn c f → d.types ≡ eq.types → gathered e new ≡ with_trees d.types (gathered d f) ts →
+      IsIn u ts → Covers eq rule (gathered e new) u
   row_covers c d e f new ts u g h types is m = subst (λ (x : Gathered). Covers eq rule x u) (sym (is ∙ rw (types, gathered-grown c d f g h) refl)) (covers_all (gathered c f) ts u m)
 
-  pub row_more : (c d e : Content) (f new : Found) (ts : List Plain) → IsGrown c d → IsFoundIn c f → d.types ≡ eq.types → gathered e new ≡ with_trees d.types (gathered d f) ts → IsMore eq rule (gathered c f) (gathered e new)
+  pub row_more : (c d e : Content) (f new : Found) (ts : List Plain) → IsGrown c d → IsFoundIn c f →
+      d.types ≡ eq.types → gathered e new ≡ with_trees d.types (gathered d f) ts →
+      IsMore eq rule (gathered c f) (gathered e new)
   row_more c d e f new ts g h types is = λ u k. subst (λ (x : Gathered). Covers eq rule x u) (sym (is ∙ rw (types, gathered-grown c d f g h) refl)) (more_all (gathered c f) ts u k)
 
-  pub row_many : (c d : Content) (f : Found) (ts : List Plain) → IsGrown c d → IsFoundIn c f → d.types ≡ eq.types → ((t : Plain) → IsIn t ts → IsAny t) → IsSound eq rule (gathered c f) → IsOverfull d.types (gathered d f) ts → HasTooManyTrees eq rule
+  pub row_many : (c d : Content) (f : Found) (ts : List Plain) → IsGrown c d → IsFoundIn c f →
+      d.types ≡ eq.types → ((t : Plain) → IsIn t ts → IsAny t) → IsSound eq rule (gathered c f) →
+      IsOverfull d.types (gathered d f) ts → HasTooManyTrees eq rule
   row_many c d f ts g h types any s o =
       overfull_many (gathered c f) ts any s (subst (λ (x : Gathered). IsOverfull eq.types x ts) (gathered-grown c d f g h) (subst (λ (ty : Types). IsOverfull ty (gathered d f) ts) types o))
 

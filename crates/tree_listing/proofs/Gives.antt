@@ -59,7 +59,9 @@ module _ (eq : Equation) (rule : Rule) (plan : RulePlan) (c : Content) (empty : 
     pub tree : tree_at c i.0 ≡ u
     pub place : ((is_kernel c.types k ≡ true) × (y : RowLevel) × IsIn y level.rows × (y.kernel.0 ≡ k) × IsIn i y.wholes) ⊎ ((is_kernel c.types k ≡ false) × (above ≡ 0) × (i ≡ empty))
 
-  given_edge : (level : Level) (above : ℕ) (s : Site) (u : Plain) (i : TreeId) → IsAbove level above s.edge.kind.0 u i → passes c s i ≡ true → IsIn (growth_of s i) (by_edge c empty above level.rows s)
+  given_edge : (level : Level) (above : ℕ) (s : Site) (u : Plain) (i : TreeId) →
+      IsAbove level above s.edge.kind.0 u i → passes c s i ≡ true →
+      IsIn (growth_of s i) (by_edge c empty above level.rows s)
   given_edge level above s u i h p =
       let g = growth_of s i in
       let one = in_one_if (passes c s i) g p in
@@ -76,7 +78,9 @@ module _ (eq : Equation) (rule : Rule) (plan : RulePlan) (c : Content) (empty : 
             (in_flat_map (by_child c s) g i (empty ∷ []) (inl (sym noise.2)) one))
       ]
 
-  above_kernel : (row : RuleRow) (k : ℕ) (d : List ℕ) (u t : Plain) (levels : List Level) → IsSetting eq rule plan c empty → AreLevels eq rule plan c levels → IsIn row rule.rows → IsStem eq rule plan.lows plan.mosts row (graft k d u t) →
+  above_kernel : (row : RuleRow) (k : ℕ) (d : List ℕ) (u t : Plain) (levels : List Level) →
+      IsSetting eq rule plan c empty → AreLevels eq rule plan c levels → IsIn row rule.rows →
+      IsStem eq rule plan.lows plan.mosts row (graft k d u t) →
       edge_count_of u < length levels → is_kernel c.types k ≡ true → (i : TreeId) × IsAbove (level_at levels (edge_count_of u)) (edge_count_of u) k u i
   above_kernel row k d u t levels set all m stem lt is =
       let kernel : kind_of eq.types k ≡ Some Kernel = subst (λ (ty : Types). kind_of ty k ≡ Some Kernel) set.types (kernel_of (kind_of c.types k) is) in
@@ -90,7 +94,9 @@ module _ (eq : Equation) (rule : Rule) (plan : RulePlan) (c : Content) (empty : 
       let same : y.0.kernel.0 ≡ k = ap (λ (x : TypeId). x.0) known.kernel ∙ whole.2 in
       (found.0, record { tree = found.2; place = inl (is, y.0, member_of (level_at levels (edge_count_of u)).rows place.0 y.0 y.1, same, found.1) })
 
-  above_noise : (row : RuleRow) (k : ℕ) (d : List ℕ) (u t : Plain) (levels : List Level) → IsSetting eq rule plan c empty → IsStem eq rule plan.lows plan.mosts row (graft k d u t) → is_kernel c.types k ≡ false →
+  above_noise : (row : RuleRow) (k : ℕ) (d : List ℕ) (u t : Plain) (levels : List Level) →
+      IsSetting eq rule plan c empty → IsStem eq rule plan.lows plan.mosts row (graft k d u t) →
+      is_kernel c.types k ≡ false →
       (i : TreeId) × IsAbove (level_at levels (edge_count_of u)) (edge_count_of u) k u i
   above_noise row k d u t levels set stem is =
       let edge = stem.shaped.types.0 in
@@ -98,7 +104,9 @@ module _ (eq : Equation) (rule : Rule) (plan : RulePlan) (c : Content) (empty : 
       let none : u ≡ empty_tree = edge.noise noise in
       (empty, record { tree = at_holds c empty.0 empty_tree set.empty_tree ∙ sym none; place = inr (is, ap edge_count_of none, refl) })
 
-  given_above : (row : RuleRow) (k : ℕ) (d : List ℕ) (u t : Plain) (levels : List Level) → IsSetting eq rule plan c empty → AreLevels eq rule plan c levels → IsIn row rule.rows → IsStem eq rule plan.lows plan.mosts row (graft k d u t) →
+  given_above : (row : RuleRow) (k : ℕ) (d : List ℕ) (u t : Plain) (levels : List Level) →
+      IsSetting eq rule plan c empty → AreLevels eq rule plan c levels → IsIn row rule.rows →
+      IsStem eq rule plan.lows plan.mosts row (graft k d u t) →
       edge_count_of u < length levels → (i : TreeId) × IsAbove (level_at levels (edge_count_of u)) (edge_count_of u) k u i
   given_above row k d u t levels set all m stem lt =
       (elim (is_kernel c.types k) as (λ b. is_kernel c.types k ≡ b → (i : TreeId) × IsAbove (level_at levels (edge_count_of u)) (edge_count_of u) k u i) [
@@ -110,7 +118,9 @@ module _ (eq : Equation) (rule : Rule) (plan : RulePlan) (c : Content) (empty : 
   abbrev Tests : Types → ℕ → List ℕ → Plain → Plain → Degree → Degree → Type 0
   Tests ty k d u t r m = ((is_at_most_first k d u t && nat_le (decoration_sum_of (graft k d u t)) 64) && is_not_above (degree_plus (degree_of ty (graft k d u t)) r) m) ≡ true
 
-  given_passes : (p : RowPlan) (row : RuleRow) (s : Stem) (x : Extension) (i : TreeId) (u t : Plain) (q : PlanNode) → IsSetting eq rule plan c empty → tree_at c i.0 ≡ u → tree_at c s.id.0 ≡ t → IsStem eq rule plan.lows plan.mosts row (graft x.edge.kind.0 x.edge.p.entries u t) →
+  given_passes : (p : RowPlan) (row : RuleRow) (s : Stem) (x : Extension) (i : TreeId) (u t : Plain) (q : PlanNode) →
+      IsSetting eq rule plan c empty → tree_at c i.0 ≡ u → tree_at c s.id.0 ≡ t →
+      IsStem eq rule plan.lows plan.mosts row (graft x.edge.kind.0 x.edge.p.entries u t) →
       node_at p x.node ≡ q → p.most ≡ most_at plan.mosts row.kernel.0 → IsReserve eq plan.lows row (node_type_of (graft x.edge.kind.0 x.edge.p.entries u t)) q.reserve → passes c (site_of p s x) i ≡ true
   given_passes p row s x i u t q set eu et stem there most reserve =
       let k = x.edge.kind.0 in
@@ -127,7 +137,8 @@ module _ (eq : Equation) (rule : Rule) (plan : RulePlan) (c : Content) (empty : 
       let s4 = subst (λ (z : Plain). Tests c.types k d z t (node_at p x.node).reserve p.most) (sym eu) s3 in
       subst (λ (z : Plain). Tests c.types k d (tree_at c i.0) z (node_at p x.node).reserve p.most) (sym et) s4
 
-  below_later : (p : RowPlan) (levels : List Level) (r n e k : ℕ) (g : Growth) → e < k → IsIn g (by_level c empty p levels n r e) → IsIn g (growths_below c empty p levels n r k)
+  below_later : (p : RowPlan) (levels : List Level) (r n e k : ℕ) (g : Growth) → e < k →
+      IsIn g (by_level c empty p levels n r e) → IsIn g (growths_below c empty p levels n r k)
   below_later p levels r n e zero g lt m = absurd (omega (arith, lt))
   below_later p levels r n e (suc k) g lt m =
       elim (last e k lt) [
@@ -141,7 +152,9 @@ module _ (eq : Equation) (rule : Rule) (plan : RulePlan) (c : Content) (empty : 
       last (suc a) zero h = absurd (omega (arith, h))
       last (suc a) (suc b) h = elim (last a b (omega (arith, h))) [ inl l ↦ inl (omega (arith, l)) | inr e ↦ inr (ap suc e) ]
 
-  pub stem_given : (p : RowPlan) (levels : List Level) (r : ℕ) (row : RuleRow) (t : Plain) → IsSetting eq rule plan c empty → AreLevels eq rule plan c levels → slice_get rule.rows r ≡ Some row → IsRowPlan eq plan.lows plan.mosts row p →
+  pub stem_given : (p : RowPlan) (levels : List Level) (r : ℕ) (row : RuleRow) (t : Plain) →
+      IsSetting eq rule plan c empty → AreLevels eq rule plan c levels →
+      slice_get rule.rows r ≡ Some row → IsRowPlan eq plan.lows plan.mosts row p →
       0 < length levels → IsStem eq rule plan.lows plan.mosts row t → edge_count_of t ≡ length levels → (j : ℕ) × IsIn (t, j) (map (sprout_of_growth c) (growths c empty p levels r))
   stem_given p levels r row (bare n) set all at planned some stem count = absurd (omega (arith, some, count))
   stem_given p levels r row (graft k d u t) set all at planned some stem count =

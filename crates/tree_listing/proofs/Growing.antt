@@ -65,10 +65,14 @@ growth-grown c d g w h = record {
 pub growth_below : (c : Content) (g : Growth) (es fs : List EdgeTo) → IsGrowthIn c g → AreBelow g.rest.0 es → fs ≡ g.edge ∷ es → AreBelow (length c.trees) fs
 growth_below c g es fs h b is = let r = h.rest in rw is (h.child, AreBelow-le g.rest.0 (length c.trees) es (omega (arith, r)) b)
 
-pub growth_over : (c : Content) (g : Growth) (n : List ℕ) (es fs : List EdgeTo) → Holds c g.rest.0 (tree_over c.trees n es) → fs ≡ g.edge ∷ es → tree_over c.trees n fs ≡ tree_of_growth c g
+pub growth_over : (c : Content) (g : Growth) (n : List ℕ) (es fs : List EdgeTo) →
+    Holds c g.rest.0 (tree_over c.trees n es) → fs ≡ g.edge ∷ es →
+    tree_over c.trees n fs ≡ tree_of_growth c g
 growth_over c g n es fs h is = rw (is, at_holds c g.rest.0 (tree_over c.trees n es) h) refl
 
-pub growth_canon : (c : Content) (g : Growth) (n : List ℕ) (es fs : List EdgeTo) → IsGrowthIn c g → Holds c g.rest.0 (tree_over c.trees n es) → fs ≡ g.edge ∷ es → canon (tree_over c.trees n fs) ≡ tree_of_growth c g
+pub growth_canon : (c : Content) (g : Growth) (n : List ℕ) (es fs : List EdgeTo) → IsGrowthIn c g →
+    Holds c g.rest.0 (tree_over c.trees n es) → fs ≡ g.edge ∷ es →
+    canon (tree_over c.trees n fs) ≡ tree_of_growth c g
 growth_canon c g n es fs k h is = ap canon (growth_over c g n es fs h is) ∙ canon_fixed (tree_of_growth c g) k.kept.canonical
 
 -- the edges of a stem with another root
@@ -76,20 +80,26 @@ grafted-root : (m n : List ℕ) (es : List Labelled) → with_root m (grafted n 
 grafted-root m n [] = refl
 grafted-root m n (e ∷ es) = ap (graft e.kind.0 e.p.entries e.child) (grafted-root m n es)
 
-pub root_over : (c : Content) (i : ℕ) (m n : List ℕ) (es : List EdgeTo) → Holds c i (tree_over c.trees n es) → tree_over c.trees m es ≡ with_root m (tree_at c i)
+pub root_over : (c : Content) (i : ℕ) (m n : List ℕ) (es : List EdgeTo) →
+    Holds c i (tree_over c.trees n es) → tree_over c.trees m es ≡ with_root m (tree_at c i)
 root_over c i m n es h = sym (ap (with_root m) (at_holds c i (tree_over c.trees n es) h) ∙ grafted-root m n (map (edge_over c.trees) es))
 
-pub root_canon : (c : Content) (i : ℕ) (m n : List ℕ) (es : List EdgeTo) → IsKept c.types (with_root m (tree_at c i)) → Holds c i (tree_over c.trees n es) → canon (tree_over c.trees m es) ≡ with_root m (tree_at c i)
+pub root_canon : (c : Content) (i : ℕ) (m n : List ℕ) (es : List EdgeTo) →
+    IsKept c.types (with_root m (tree_at c i)) → Holds c i (tree_over c.trees n es) →
+    canon (tree_over c.trees m es) ≡ with_root m (tree_at c i)
 root_canon c i m n es k h = ap canon (root_over c i m n es h) ∙ canon_fixed (with_root m (tree_at c i)) k.canonical
 
-pub map_step : {X Y : Type 0} (f : X → Y) (xs : List X) (i : ℕ) (d : X) (ys : List Y) → i < length xs → ys ≡ map f (take i xs) → ys ++ f (get_or xs i d) ∷ [] ≡ map f (take (i + 1) xs)
+pub map_step : {X Y : Type 0} (f : X → Y) (xs : List X) (i : ℕ) (d : X) (ys : List Y) →
+    i < length xs → ys ≡ map f (take i xs) → ys ++ f (get_or xs i d) ∷ [] ≡ map f (take (i + 1) xs)
 map_step {X} {Y} f xs i d ys h is = rw (take_more xs i d h, map-append f (take i xs) (get_or xs i d ∷ []), is) refl
 
 abbrev stem_made : TreeId → ℕ → Stem
 stem_made i j = record { id = i; node = j }
 
 -- one more stem
-pub stems_step : (c0 c d : Content) (gs : List Growth) (i : ℕ) (e : Growth) (ss new : List Stem) (id : TreeId) → IsGrown c0 c → IsGrown c d → All (λ s. s.id.0 < length c.trees) ss → sprouts c ss ≡ map (sprout_of_growth c0) (take i gs) →
+pub stems_step : (c0 c d : Content) (gs : List Growth) (i : ℕ) (e : Growth) (ss new : List Stem) (id : TreeId) →
+    IsGrown c0 c → IsGrown c d → All (λ s. s.id.0 < length c.trees) ss →
+    sprouts c ss ≡ map (sprout_of_growth c0) (take i gs) →
     i < length gs → IsGrowthIn c0 (get_or gs i e) → Holds d id.0 (tree_of_growth c (get_or gs i e)) → new ≡ ss ++ stem_made id (get_or gs i e).node ∷ [] → sprouts d new ≡ map (sprout_of_growth c0) (take (i + 1) gs)
 stems_step c0 c d gs i e ss new id w v known is l k there pushed =
     let g = get_or gs i e in
@@ -98,7 +108,9 @@ stems_step c0 c d gs i e ss new id w v known is l k there pushed =
     let old : sprouts d ss ≡ map (sprout_of_growth c0) (take i gs) = sprouts-grown c d ss v known ∙ is in
     rw (pushed, map-append (sprout_of d) ss (stem_made id g.node ∷ []), last) (map_step (sprout_of_growth c0) gs i e (sprouts d ss) l old)
 
-pub stems_push : (c d : Content) (ss new : List Stem) (id : TreeId) (j : ℕ) (t : Plain) → IsGrown c d → All (λ s. s.id.0 < length c.trees) ss → Holds d id.0 t → new ≡ ss ++ stem_made id j ∷ [] → All (λ s. s.id.0 < length d.trees) new
+pub stems_push : (c d : Content) (ss new : List Stem) (id : TreeId) (j : ℕ) (t : Plain) →
+    IsGrown c d → All (λ s. s.id.0 < length c.trees) ss → Holds d id.0 t →
+    new ≡ ss ++ stem_made id j ∷ [] → All (λ s. s.id.0 < length d.trees) new
 stems_push c d ss new id j t g known there pushed =
     rw pushed (All-push (λ (s : Stem). s.id.0 < length d.trees) ss (stem_made id j) (stems-grown c d ss g known) (holds_below d id.0 t there))
 

@@ -33,7 +33,9 @@ least_none c [] x a b = record { a = a; b = b; each = λ i m. absurd m }
 least_none c (j ∷ is) x a b = record { a = a; b = b; each = λ i m. absurd m }
 
 -- one more
-pub least_more : (c : Content) (is : List TreeId) (i : ℕ) (j d : TreeId) (x y z : Degree) → IsPooled c → AreIds c is → i < length is → j ≡ get_or is i d → IsLeast c (take i is) x → z ≡ degree_of c.types (tree_at c j.0) →
+pub least_more : (c : Content) (is : List TreeId) (i : ℕ) (j d : TreeId) (x y z : Degree) →
+    IsPooled c → AreIds c is → i < length is → j ≡ get_or is i d → IsLeast c (take i is) x →
+    z ≡ degree_of c.types (tree_at c j.0) →
     (y ≡ x) ⊎ (y ≡ z) → IsNotAbove y x → IsNotAbove y z → IsLeast c (take (i + 1) is) y
 least_more c is i j d x y z p known lt at h degree either below_x below_z =
     let id : j.0 < length c.trees = subst (λ (k : TreeId). k.0 < length c.trees) (sym at) (known i d lt) in

@@ -38,7 +38,8 @@ module _ (eq : Equation) (rule : Rule) (plan : RulePlan) where
     empty_tree = grown_holds c d empty.0 empty_tree g h.empty_tree;
   }
 
-  pub row_level-grown : (c d : Content) (row : RuleRow) (e : ℕ) (x : RowLevel) → IsGrown c d → IsRowLevel eq rule plan c row e x → IsRowLevel eq rule plan d row e x
+  pub row_level-grown : (c d : Content) (row : RuleRow) (e : ℕ) (x : RowLevel) → IsGrown c d →
+      IsRowLevel eq rule plan c row e x → IsRowLevel eq rule plan d row e x
   row_level-grown c d row e x g h = record {
     kernel = h.kernel;
     known = record { stems = stems-grown c d x.stems g h.known.stems; wholes = ids-grown c d x.wholes g h.known.wholes; least = least-grown c d x.wholes x.least g h.known.wholes h.known.least };
@@ -56,7 +57,9 @@ module _ (eq : Equation) (rule : Rule) (plan : RulePlan) where
   good-grown c d f g h = record { keeping = keeping-grown c d f [] g h.keeping; sound = subst (IsSound eq rule) (sym (gathered-grown c d f g h.keeping.found)) h.sound }
 
   -- a row that is made
-  pub row_made : (c d : Content) (p : RowPlan) (row : RuleRow) (e : ℕ) (stems : List Stem) (wholes : List TreeId) (x : RowLevel) → IsGrown c d → c.types ≡ eq.types → eq.types.dims ≤ 5 → IsRowPlan eq plan.lows plan.mosts row p →
+  pub row_made : (c d : Content) (p : RowPlan) (row : RuleRow) (e : ℕ) (stems : List Stem) (wholes : List TreeId) (x : RowLevel) →
+      IsGrown c d → c.types ≡ eq.types → eq.types.dims ≤ 5 →
+      IsRowPlan eq plan.lows plan.mosts row p →
       AreSprouts eq rule plan row e (sprouts c stems) → All (λ s. s.id.0 < length c.trees) stems → All (λ i. i.0 < length d.trees) wholes → trees d wholes ≡ decorated_all c.types p.most (stem_trees c stems) →
       x.kernel ≡ p.kernel → x.stems ≡ stems → x.wholes ≡ wholes → IsLeast d wholes x.least → IsRowLevel eq rule plan d row e x
   row_made c d p row e stems wholes x g types five planned sprouted known ids is kernel same_stems same_wholes least = record {
@@ -66,7 +69,9 @@ module _ (eq : Equation) (rule : Rule) (plan : RulePlan) where
     wholes = rw (same_wholes, is, types) (row_wholes_are eq rule plan c row p.most e stems five planned.most sprouted);
   }
 
-  pub made_wholes : (c : Content) (row : RuleRow) (most : Degree) (e : ℕ) (ss stems : List Stem) → c.types ≡ eq.types → eq.types.dims ≤ 5 → most ≡ most_at plan.mosts row.kernel.0 → AreSprouts eq rule plan row e (sprouts c stems) → ss ≡ stems →
+  pub made_wholes : (c : Content) (row : RuleRow) (most : Degree) (e : ℕ) (ss stems : List Stem) →
+      c.types ≡ eq.types → eq.types.dims ≤ 5 → most ≡ most_at plan.mosts row.kernel.0 →
+      AreSprouts eq rule plan row e (sprouts c stems) → ss ≡ stems →
       AreWholes eq rule plan row e (decorated_all c.types most (stem_trees c ss))
   made_wholes c row most e ss stems types five same h is = rw (is, types) (row_wholes_are eq rule plan c row most e stems five same h)
 
@@ -74,7 +79,8 @@ module _ (eq : Equation) (rule : Rule) (plan : RulePlan) where
   keeping_none c f is h = record { found = h.found; ascending = h.ascending; few = h.few; wholes = λ k d l. absurd (omega (arith, l)) }
 
   -- one more row
-  pub rows_step : (c d : Content) (n : ℕ) (rows new : List RowLevel) (x : RowLevel) → IsGrown c d → ((r : ℕ) (row : RuleRow) (y : RowLevel) → slice_get rule.rows r ≡ Some row → slice_get rows r ≡ Some y → IsRowLevel eq rule plan c row n y) →
+  pub rows_step : (c d : Content) (n : ℕ) (rows new : List RowLevel) (x : RowLevel) → IsGrown c d →
+      ((r : ℕ) (row : RuleRow) (y : RowLevel) → slice_get rule.rows r ≡ Some row → slice_get rows r ≡ Some y → IsRowLevel eq rule plan c row n y) →
       ((row : RuleRow) → slice_get rule.rows (length rows) ≡ Some row → IsRowLevel eq rule plan d row n x) → new ≡ rows ++ x ∷ [] →
       (r : ℕ) (row : RuleRow) (y : RowLevel) → slice_get rule.rows r ≡ Some row → slice_get new r ≡ Some y → IsRowLevel eq rule plan d row n y
   rows_step c d n rows new x g old last is r row y i at =
@@ -83,7 +89,8 @@ module _ (eq : Equation) (rule : Rule) (plan : RulePlan) where
         | inr here ↦ subst (IsRowLevel eq rule plan d row n) here.1 (last row (subst (λ (k : ℕ). slice_get rule.rows k ≡ Some row) here.0 i))
       ]
 
-  pub covered_step : (n k : ℕ) (g h : Gathered) → IsMore eq rule g h → ((r : ℕ) (row : RuleRow) → r < k → slice_get rule.rows r ≡ Some row → AreCovered eq rule plan row n g) →
+  pub covered_step : (n k : ℕ) (g h : Gathered) → IsMore eq rule g h →
+      ((r : ℕ) (row : RuleRow) → r < k → slice_get rule.rows r ≡ Some row → AreCovered eq rule plan row n g) →
       ((row : RuleRow) → slice_get rule.rows k ≡ Some row → AreCovered eq rule plan row n h) → (r : ℕ) (row : RuleRow) → r < k + 1 → slice_get rule.rows r ≡ Some row → AreCovered eq rule plan row n h
   covered_step n k g h more old last r row lt i =
       elim (last_one r k lt) [
@@ -98,14 +105,17 @@ module _ (eq : Equation) (rule : Rule) (plan : RulePlan) where
       last_one (suc a) (suc b) l = elim (last_one a b (omega (arith, l))) [ inl x ↦ inl (omega (arith, x)) | inr x ↦ inr (ap suc x) ]
 
   -- one more level
-  pub levels_step : (c d : Content) (levels new : List Level) (level : Level) → IsGrown c d → AreLevels eq rule plan c levels → IsLevel eq rule plan d (length levels) level → new ≡ levels ++ level ∷ [] → AreLevels eq rule plan d new
+  pub levels_step : (c d : Content) (levels new : List Level) (level : Level) → IsGrown c d →
+      AreLevels eq rule plan c levels → IsLevel eq rule plan d (length levels) level →
+      new ≡ levels ++ level ∷ [] → AreLevels eq rule plan d new
   levels_step c d levels new level g old last is e x at =
       elim (slice_get-append_cases levels level e x (subst (λ (zs : List Level). slice_get zs e ≡ Some x) is at)) [
         | inl there ↦ level-grown c d e x g (old e x there)
         | inr here ↦ subst (λ (k : ℕ). IsLevel eq rule plan d k x) (sym here.0) (subst (IsLevel eq rule plan d (length levels)) here.1 last)
       ]
 
-  pub all_covered_step : (n : ℕ) (g h : Gathered) → IsMore eq rule g h → ((row : RuleRow) (t : Plain) → IsIn row rule.rows → IsWhole eq rule plan.mosts row t → edge_count_of t < n → Covers eq rule g t) →
+  pub all_covered_step : (n : ℕ) (g h : Gathered) → IsMore eq rule g h →
+      ((row : RuleRow) (t : Plain) → IsIn row rule.rows → IsWhole eq rule plan.mosts row t → edge_count_of t < n → Covers eq rule g t) →
       ((row : RuleRow) → IsIn row rule.rows → AreCovered eq rule plan row n h) → (row : RuleRow) (t : Plain) → IsIn row rule.rows → IsWhole eq rule plan.mosts row t → edge_count_of t < n + 1 → Covers eq rule h t
   all_covered_step n g h more old last row t i whole lt =
       elim (last_one (edge_count_of t) n lt) [

@@ -56,7 +56,9 @@ module _ (eq : Equation) (rule : Rule) where
   zero_not_above t h = subst (λ d. IsNotAbove d degree_zero) (sym h.zero) (not_above_self degree_zero)
 
   -- where no tree is too large
-  fits_bounds : (t : Plain) → IsCandidate eq rule t → IsNotAbove (degree_of eq.types t) degree_zero → (HasTooLargeTree eq rule → ⊥) → (edge_count_of t ≤ 24) × (decoration_sum_of t ≤ 64)
+  fits_bounds : (t : Plain) → IsCandidate eq rule t →
+      IsNotAbove (degree_of eq.types t) degree_zero → (HasTooLargeTree eq rule → ⊥) →
+      (edge_count_of t ≤ 24) × (decoration_sum_of t ≤ 64)
   fits_bounds t k d none =
       elim (at_most_or_more (edge_count_of t) 24) [
         | inr more ↦ absurd (none record { tree = t; candidate = k; at_most_zero = d; large = inl more })
@@ -70,25 +72,31 @@ module _ (eq : Equation) (rule : Rule) where
   abbrev pub AllCovered : RulePlan → Gathered → Type 0
   AllCovered plan g = (r : RuleRow) (t : Plain) → IsIn r rule.rows → IsWhole eq rule plan.mosts r t → Covers eq rule g t
 
-  candidate_covered : (plan : RulePlan) (g : Gathered) (t : Plain) → IsPlan eq rule plan → AllCovered plan g → IsCandidate eq rule t → IsNotAbove (degree_of eq.types t) degree_zero → edge_count_of t ≤ 24 → decoration_sum_of t ≤ 64 → Covers eq rule g t
+  candidate_covered : (plan : RulePlan) (g : Gathered) (t : Plain) → IsPlan eq rule plan →
+      AllCovered plan g → IsCandidate eq rule t → IsNotAbove (degree_of eq.types t) degree_zero →
+      edge_count_of t ≤ 24 → decoration_sum_of t ≤ 64 → Covers eq rule g t
   candidate_covered plan g t planned all k d e s = let whole = candidate_is_whole eq rule plan.lows plan.mosts t planned.budgets k d e s in all whole.0 t whole.1 whole.2
 
-  pub whole_list : (plan : RulePlan) (g : Gathered) → IsPlan eq rule plan → AllCovered plan g → IsSound eq rule g → (HasTooLargeTree eq rule → ⊥) → IsWholeList eq rule g.listed
+  pub whole_list : (plan : RulePlan) (g : Gathered) → IsPlan eq rule plan → AllCovered plan g →
+      IsSound eq rule g → (HasTooLargeTree eq rule → ⊥) → IsWholeList eq rule g.listed
   whole_list plan g planned all sound none = record {
     ascending = sound.ascending;
     listed = sound.listed;
     whole = λ t h. let b = fits_bounds t h.candidate (listed_not_above t h) none in (candidate_covered plan g t planned all h.candidate (listed_not_above t h) b.0 b.1).listed h;
   }
 
-  zero_by : (zero : Option Plain) → ((z : Plain) → zero ≡ Some z → IsZero eq rule z) → ((t : Plain) → IsZero eq rule t → IsBefore zero t) → IsFirstZero eq rule zero
+  zero_by : (zero : Option Plain) → ((z : Plain) → zero ≡ Some z → IsZero eq rule z) →
+      ((t : Plain) → IsZero eq rule t → IsBefore zero t) → IsFirstZero eq rule zero
   zero_by None is before = before
   zero_by (Some z) is before = (is z refl, before)
 
-  pub first_zero : (plan : RulePlan) (g : Gathered) → IsPlan eq rule plan → AllCovered plan g → IsSound eq rule g → (HasTooLargeTree eq rule → ⊥) → IsFirstZero eq rule g.zero
+  pub first_zero : (plan : RulePlan) (g : Gathered) → IsPlan eq rule plan → AllCovered plan g →
+      IsSound eq rule g → (HasTooLargeTree eq rule → ⊥) → IsFirstZero eq rule g.zero
   first_zero plan g planned all sound none =
       zero_by g.zero sound.zero (λ t h. let b = fits_bounds t h.candidate (zero_not_above t h) none in (candidate_covered plan g t planned all h.candidate (zero_not_above t h) b.0 b.1).zero h)
 
-  pub not_many : (plan : RulePlan) (g : Gathered) → IsPlan eq rule plan → AllCovered plan g → IsSound eq rule g → length g.listed ≤ 4000 → HasTooManyTrees eq rule → ⊥
+  pub not_many : (plan : RulePlan) (g : Gathered) → IsPlan eq rule plan → AllCovered plan g →
+      IsSound eq rule g → length g.listed ≤ 4000 → HasTooManyTrees eq rule → ⊥
   not_many plan g planned all sound few h =
       let within = length-within (listing_order eq.types) (listing_order_total eq.types) (listing_exact eq.types) h.trees g.listed h.ascending sound.ascending
       (λ t m. let l = h.listed t m in let b = h.fit t m in (candidate_covered plan g t planned all l.candidate (listed_not_above t l) b.0 b.1).listed l) in

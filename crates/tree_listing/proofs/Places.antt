@@ -35,7 +35,9 @@ tree_of_id c (i ∷ is) zero d h = refl
 tree_of_id c (i ∷ is) (suc k) d h = tree_of_id c is k d (omega (arith, h))
 
 -- where all before are less and the next is greater
-pub insert_at : (ty : Types) (ts : List Plain) (t : Plain) (i : ℕ) → i ≤ length ts → AreBefore ty ts t i → AreAfter ty ts t i → insert_key (listing_order ty) ts t ≡ take i ts ++ t ∷ drop i ts
+pub insert_at : (ty : Types) (ts : List Plain) (t : Plain) (i : ℕ) → i ≤ length ts →
+    AreBefore ty ts t i → AreAfter ty ts t i →
+    insert_key (listing_order ty) ts t ≡ take i ts ++ t ∷ drop i ts
 insert_at ty [] t zero h before after = refl
 insert_at ty [] t (suc i) h before after = absurd (omega (arith, h))
 insert_at ty (x ∷ ts) t zero h before after = ap (λ (o : Ordering). match_ordering o (t ∷ x ∷ ts) (x ∷ ts) (x ∷ insert_key (listing_order ty) ts t)) (after 0 (omega arith) (omega arith))
@@ -60,7 +62,8 @@ all_by_at : (P : Plain → Type 0) (ts : List Plain) (k : ℕ) (d : Plain) → A
 all_by_at P ts k d h l = all_at_member P ts (get_or ts k d) h (in_at ts k d l)
 
 -- in a strictly ascending list an earlier one is less
-pub earlier : (ty : Types) (ts : List Plain) (i k : ℕ) → IsStrictlySortedBy (listing_order ty) ts → i < k → k < length ts → listing_order ty (get_or ts i (bare [])) (get_or ts k (bare [])) ≡ Less
+pub earlier : (ty : Types) (ts : List Plain) (i k : ℕ) → IsStrictlySortedBy (listing_order ty) ts →
+    i < k → k < length ts → listing_order ty (get_or ts i (bare [])) (get_or ts k (bare [])) ≡ Less
 unfolding IsStrictlySortedBy
 earlier ty [] i k s h l = absurd (omega (arith, l))
 earlier ty (x ∷ ts) i zero s h l = absurd (omega (arith, h))
@@ -68,7 +71,9 @@ earlier ty (x ∷ ts) zero (suc k) s h l = all_by_at (λ y. listing_order ty x y
 earlier ty (x ∷ ts) (suc i) (suc k) s h l = earlier ty ts i k s.1 (omega (arith, h)) (omega (arith, l))
 
 -- what is above one in the middle is above all before
-pub all_before : (ty : Types) (ts : List Plain) (t : Plain) (m : ℕ) → IsStrictlySortedBy (listing_order ty) ts → m < length ts → listing_order ty t (get_or ts m (bare [])) ≡ Greater → AreBefore ty ts t (m + 1)
+pub all_before : (ty : Types) (ts : List Plain) (t : Plain) (m : ℕ) →
+    IsStrictlySortedBy (listing_order ty) ts → m < length ts →
+    listing_order ty t (get_or ts m (bare [])) ≡ Greater → AreBefore ty ts t (m + 1)
 all_before ty ts t m s l h k b =
     elim (at_most k m (omega (arith, b))) [
       | inl less ↦ above ty (get_or ts k (bare [])) t ((listing_order_total ty).trans (get_or ts k (bare [])) (get_or ts m (bare [])) t (earlier ty ts k m s less l) ((listing_order_total ty).antisymm (get_or ts m (bare [])) t ∙ ap ordering_reverse h))
@@ -81,7 +86,9 @@ all_before ty ts t m s l h k b =
     at_most (suc a) zero g = absurd (omega (arith, g))
     at_most (suc a) (suc b) g = elim (at_most a b (omega (arith, g))) [ inl x ↦ inl (omega (arith, x)) | inr x ↦ inr (ap suc x) ]
 
-pub all_after : (ty : Types) (ts : List Plain) (t : Plain) (m : ℕ) → IsStrictlySortedBy (listing_order ty) ts → m < length ts → listing_order ty t (get_or ts m (bare [])) ≡ Less → AreAfter ty ts t m
+pub all_after : (ty : Types) (ts : List Plain) (t : Plain) (m : ℕ) →
+    IsStrictlySortedBy (listing_order ty) ts → m < length ts →
+    listing_order ty t (get_or ts m (bare [])) ≡ Less → AreAfter ty ts t m
 all_after ty ts t m s l h k a b =
     elim (at_least m k a) [
       | inl less ↦ (listing_order_total ty).trans t (get_or ts m (bare [])) (get_or ts k (bare [])) h (earlier ty ts m k s less b)
@@ -102,7 +109,9 @@ second Greater b h = absurd cc
 pub listing_exact : (ty : Types) (s t : Plain) → listing_order ty s t ≡ Equal → s ≡ t
 listing_exact ty s t h = tree_exact s t (second (degree_order (degree_of ty s) (degree_of ty t)) (tree_order s t) h)
 
-pub there_at : (ty : Types) (ts : List Plain) (t : Plain) (m : ℕ) → IsStrictlySortedBy (listing_order ty) ts → m < length ts → listing_order ty t (get_or ts m (bare [])) ≡ Equal → IsThere ty ts t
+pub there_at : (ty : Types) (ts : List Plain) (t : Plain) (m : ℕ) →
+    IsStrictlySortedBy (listing_order ty) ts → m < length ts →
+    listing_order ty t (get_or ts m (bare [])) ≡ Equal → IsThere ty ts t
 there_at ty ts t m s l h = insert_there ty ts t s (subst (λ (u : Plain). IsIn u ts) (sym (listing_exact ty t (get_or ts m (bare [])) h)) (in_at ts m (bare []) l))
 
 -- past the end of a list of numbers
@@ -113,7 +122,8 @@ pub length-trees : (c : Content) (is : List TreeId) → length (trees c is) ≡ 
 length-trees c [] = refl
 length-trees c (i ∷ is) = omega (arith, length-trees c is)
 
-pub trees-insert : (c : Content) (is : List TreeId) (i : ℕ) (id : TreeId) → trees c (take i is ++ id ∷ drop i is) ≡ take i (trees c is) ++ tree_at c id.0 ∷ drop i (trees c is)
+pub trees-insert : (c : Content) (is : List TreeId) (i : ℕ) (id : TreeId) →
+    trees c (take i is ++ id ∷ drop i is) ≡ take i (trees c is) ++ tree_at c id.0 ∷ drop i (trees c is)
 trees-insert c [] zero id = refl
 trees-insert c [] (suc i) id = refl
 trees-insert c (x ∷ is) zero id = refl
@@ -132,7 +142,9 @@ drop_in [] (suc i) x h = absurd h
 drop_in (y ∷ is) zero x h = h
 drop_in (y ∷ is) (suc i) x h = inr (drop_in is i x h)
 
-pub ids-insert : (c : Content) (is : List TreeId) (i : ℕ) (id : TreeId) → All (λ j. j.0 < length c.trees) is → id.0 < length c.trees → All (λ j. j.0 < length c.trees) (take i is ++ id ∷ drop i is)
+pub ids-insert : (c : Content) (is : List TreeId) (i : ℕ) (id : TreeId) →
+    All (λ j. j.0 < length c.trees) is → id.0 < length c.trees →
+    All (λ j. j.0 < length c.trees) (take i is ++ id ∷ drop i is)
 ids-insert c is i id h k = all_of_members (λ (j : TreeId). j.0 < length c.trees) (take i is ++ id ∷ drop i is) (λ x m.
     elim (from_append x (take i is) (id ∷ drop i is) m) [
       | inl a ↦ all_at (λ (j : TreeId). j.0 < length c.trees) is x h (take_in is i x a)

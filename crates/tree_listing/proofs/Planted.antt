@@ -10,16 +10,20 @@ and_false : (b : Bool) → false ≡ (b && false)
 and_false true = refl
 and_false false = refl
 
-pub planted_one : (c : Content) (i : ℕ) (n : List ℕ) (es : List EdgeTo) → Holds c i (tree_over c.trees n es) → 1 ≤ length es → length es < 2 → (is_kernel c.types (get_or es 0 no_edge).kind.0 && is_zero n) ≡ planted c.types (tree_at c i)
+pub planted_one : (c : Content) (i : ℕ) (n : List ℕ) (es : List EdgeTo) →
+    Holds c i (tree_over c.trees n es) → 1 ≤ length es → length es < 2 →
+    (is_kernel c.types (get_or es 0 no_edge).kind.0 && is_zero n) ≡ planted c.types (tree_at c i)
 planted_one c i n [] h l m = absurd (omega (arith, l))
 planted_one c i n (e ∷ []) h l m = rw (at_holds c i (tree_over c.trees n (e ∷ [])) h) refl
 planted_one c i n (e ∷ f ∷ es) h l m = absurd (omega (arith, m))
 
-pub planted_none : (c : Content) (i : ℕ) (n : List ℕ) (es : List EdgeTo) → Holds c i (tree_over c.trees n es) → length es < 1 → false ≡ planted c.types (tree_at c i)
+pub planted_none : (c : Content) (i : ℕ) (n : List ℕ) (es : List EdgeTo) →
+    Holds c i (tree_over c.trees n es) → length es < 1 → false ≡ planted c.types (tree_at c i)
 planted_none c i n [] h l = rw (at_holds c i (tree_over c.trees n []) h) refl
 planted_none c i n (e ∷ es) h l = absurd (omega (arith, l))
 
-pub planted_more : (c : Content) (i : ℕ) (n : List ℕ) (es : List EdgeTo) → Holds c i (tree_over c.trees n es) → 2 ≤ length es → false ≡ planted c.types (tree_at c i)
+pub planted_more : (c : Content) (i : ℕ) (n : List ℕ) (es : List EdgeTo) →
+    Holds c i (tree_over c.trees n es) → 2 ≤ length es → false ≡ planted c.types (tree_at c i)
 planted_more c i n [] h l = absurd (omega (arith, l))
 planted_more c i n (e ∷ []) h l = absurd (omega (arith, l))
 planted_more c i n (e ∷ f ∷ es) h l = rw (at_holds c i (tree_over c.trees n (e ∷ f ∷ es)) h) (and_false (is_kernel c.types e.kind.0))

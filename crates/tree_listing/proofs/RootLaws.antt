@@ -79,7 +79,9 @@ from_not_above d e h = not_gt (degree_order d e) h
 pub not_above_test : (d e : Degree) → IsNotAbove d e → is_not_above d e ≡ true
 not_above_test d e h = is_not_gt (degree_order d e) h
 
-pub entries_step : (ty : Types) (room : Room) (i : ℕ) (n : Multi) (k : ℕ) (m : Multi) (base before after : List Multi) → before ≡ base ++ entries_below ty room i n k → m ≡ with_entry i k n → after ≡ before ++ one_if (fits ty room m) m →
+pub entries_step : (ty : Types) (room : Room) (i : ℕ) (n : Multi) (k : ℕ) (m : Multi) (base before after : List Multi) →
+    before ≡ base ++ entries_below ty room i n k → m ≡ with_entry i k n →
+    after ≡ before ++ one_if (fits ty room m) m →
     after ≡ base ++ entries_below ty room i n (k + 1)
 entries_step ty room i n k m base before after is at new =
     let one : k + 1 ≡ suc k = omega arith in

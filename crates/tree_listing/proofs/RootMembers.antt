@@ -39,7 +39,9 @@ nat_entry v a b h k = grind (arith, nat_tests)
 node_not_above : (ty : Types) (m n : List ℕ) → size_in_units ty m ≤ size_in_units ty n → IsNotAbove (node_degree_of ty m) (node_degree_of ty n)
 node_not_above ty m n h = from_parts (node_degree_of ty m) (node_degree_of ty n) record { standard = omega (arith, ints, h); tied = λ same. omega (arith, ints) }
 
-pub from_entries : (ty : Types) (room : Room) (i : ℕ) (n m : Multi) (k : ℕ) → IsIn m (entries_below ty room i n k) → (v : ℕ) × (with_entry i v n ≡ m) × (fits ty room m ≡ true)
+pub from_entries : (ty : Types) (room : Room) (i : ℕ) (n m : Multi) (k : ℕ) →
+    IsIn m (entries_below ty room i n k) →
+    (v : ℕ) × (with_entry i v n ≡ m) × (fits ty room m ≡ true)
 from_entries ty room i n m zero h = absurd h
 from_entries ty room i n m (suc k) h =
     elim (from_append m (entries_below ty room i n k) (one_if (fits ty room (with_entry i k n)) (with_entry i k n)) h) [
@@ -47,7 +49,8 @@ from_entries ty room i n m (suc k) h =
       | inr new ↦ let one = from_one_if (fits ty room (with_entry i k n)) (with_entry i k n) m new in (k, one.1, ap (fits ty room) (sym one.1) ∙ one.0)
     ]
 
-pub in_entries : (ty : Types) (room : Room) (i : ℕ) (n : Multi) (k v : ℕ) → v < k → fits ty room (with_entry i v n) ≡ true → IsIn (with_entry i v n) (entries_below ty room i n k)
+pub in_entries : (ty : Types) (room : Room) (i : ℕ) (n : Multi) (k v : ℕ) → v < k →
+    fits ty room (with_entry i v n) ≡ true → IsIn (with_entry i v n) (entries_below ty room i n k)
 in_entries ty room i n zero v h f = absurd (omega (arith, h))
 in_entries ty room i n (suc k) v h f =
     let last = one_if (fits ty room (with_entry i k n)) (with_entry i k n) in
@@ -105,7 +108,9 @@ units_unset : (ty : Types) (xs : List ℕ) (i : ℕ) → size_in_units ty (set x
 units_unset ty xs i = mul-le (unsigned_abs ty.units.den) (scaled_size ty.scaling (set xs i 0)) (unsigned_abs ty.units.den) (scaled_size ty.scaling xs) (omega arith) (size_unset ty.scaling xs i)
 
 -- what fits still fits where it is less
-fits_less : (ty : Types) (room : Room) (m n : Multi) → sum m.entries ≤ sum n.entries → size_in_units ty m.entries ≤ size_in_units ty n.entries → fits ty room n ≡ true → fits ty room m ≡ true
+fits_less : (ty : Types) (room : Room) (m n : Multi) → sum m.entries ≤ sum n.entries →
+    size_in_units ty m.entries ≤ size_in_units ty n.entries → fits ty room n ≡ true →
+    fits ty room m ≡ true
 fits_less ty room m n sums sizes h =
     let parts = from_both (nat_le (sum n.entries) room.entries) (is_not_above (degree_plus (node_degree_of ty n.entries) room.degree) room.most) h in
     let less = node_not_above ty m.entries n.entries sizes in
@@ -138,11 +143,14 @@ entry_fits ty room i n v w h f =
     fits_less ty room (with_entry i v n) (with_entry i w n) (sum_entry n.entries i v w h) sizes f
 
 -- where an entry does not fit, no greater one does
-entry_past : (ty : Types) (room : Room) (i : ℕ) (n : Multi) (v w : ℕ) (b : Bool) → v ≤ w → fits ty room (with_entry i v n) ≡ false → fits ty room (with_entry i w n) ≡ b → b ≡ false
+entry_past : (ty : Types) (room : Room) (i : ℕ) (n : Multi) (v w : ℕ) (b : Bool) → v ≤ w →
+    fits ty room (with_entry i v n) ≡ false → fits ty room (with_entry i w n) ≡ b → b ≡ false
 entry_past ty room i n v w false h none is = refl
 entry_past ty room i n v w true h none is = let some = entry_fits ty room i n v w h is in absurd cc
 
-pub entries_past : (ty : Types) (room : Room) (i : ℕ) (n : Multi) (v k : ℕ) → v ≤ k → fits ty room (with_entry i v n) ≡ false → entries_below ty room i n k ≡ entries_below ty room i n v
+pub entries_past : (ty : Types) (room : Room) (i : ℕ) (n : Multi) (v k : ℕ) → v ≤ k →
+    fits ty room (with_entry i v n) ≡ false →
+    entries_below ty room i n k ≡ entries_below ty room i n v
 entries_past ty room i n zero zero h none = refl
 entries_past ty room i n (suc v) zero h none = absurd (omega (arith, h))
 entries_past ty room i n v (suc k) h none =

@@ -40,13 +40,17 @@ module _ (eq : Equation) (rule : Rule) (plan : RulePlan) where
   own : (t : Plain) → root_of t ≡ zeros → with_root zeros t ≡ t
   own t h = ap (λ (n : List ℕ). with_root n t) (sym h) ∙ with_own_root t
 
-  root_degree : (n : List ℕ) (t : Plain) → root_of t ≡ zeros → degree_of eq.types (with_root n t) ≡ degree_plus (node_degree_of eq.types n) (degree_of eq.types t)
+  root_degree : (n : List ℕ) (t : Plain) → root_of t ≡ zeros →
+      degree_of eq.types (with_root n t) ≡ degree_plus (node_degree_of eq.types n) (degree_of eq.types t)
   root_degree n t h = degree_by_root eq.types n t ∙ ap (λ (s : Plain). degree_plus (node_degree_of eq.types n) (degree_of eq.types s)) (own t h)
 
   root_sum : (n : List ℕ) (t : Plain) → root_of t ≡ zeros → decoration_sum_of (with_root n t) ≡ sum n + decoration_sum_of t
   root_sum n t h = decoration_sum_by_root n t ∙ ap (λ (s : Plain). sum n + decoration_sum_of s) (own t h)
 
-  pub decorated_whole : (row : RuleRow) (most : Degree) (t : Plain) (n : Multi) → eq.types.dims ≤ 5 → most ≡ most_at plan.mosts row.kernel.0 → IsStem eq rule plan.lows plan.mosts row t → IsIn n (roots_to eq.types (room_of eq.types most t) eq.types.dims) →
+  pub decorated_whole : (row : RuleRow) (most : Degree) (t : Plain) (n : Multi) →
+      eq.types.dims ≤ 5 → most ≡ most_at plan.mosts row.kernel.0 →
+      IsStem eq rule plan.lows plan.mosts row t →
+      IsIn n (roots_to eq.types (room_of eq.types most t) eq.types.dims) →
       IsWhole eq rule plan.mosts row (with_root n.entries t)
   decorated_whole row most t n five same stem m =
       let multi = roots_multi eq.types (room_of eq.types most t) eq.types.dims n five (zeros_multi 5) m in
@@ -63,7 +67,8 @@ module _ (eq : Equation) (rule : Rule) (plan : RulePlan) where
   abbrev multi_made : List ℕ → Multi
   multi_made es = record { entries = es }
 
-  pub whole_decorated : (row : RuleRow) (most : Degree) (t : Plain) → eq.types.dims ≤ 5 → most ≡ most_at plan.mosts row.kernel.0 → IsWhole eq rule plan.mosts row t →
+  pub whole_decorated : (row : RuleRow) (most : Degree) (t : Plain) → eq.types.dims ≤ 5 →
+      most ≡ most_at plan.mosts row.kernel.0 → IsWhole eq rule plan.mosts row t →
       IsIn t (decorated eq.types most (with_root zeros t))
   whole_decorated row most t five same whole =
       let s = with_root zeros t in
@@ -79,7 +84,9 @@ module _ (eq : Equation) (rule : Rule) (plan : RulePlan) where
       let member = in_roots eq.types (room_of eq.types most s) eq.types.dims n five (root_multi eq.types t whole.shaped.types) fit in
       subst (λ (u : Plain). IsIn u (decorated eq.types most s)) back (in_map (with_root_of s) n (roots_to eq.types (room_of eq.types most s) eq.types.dims) member)
 
-  pub row_wholes_are : (c : Content) (row : RuleRow) (most : Degree) (e : ℕ) (ss : List Stem) → eq.types.dims ≤ 5 → most ≡ most_at plan.mosts row.kernel.0 → AreSprouts eq rule plan row e (sprouts c ss) →
+  pub row_wholes_are : (c : Content) (row : RuleRow) (most : Degree) (e : ℕ) (ss : List Stem) →
+      eq.types.dims ≤ 5 → most ≡ most_at plan.mosts row.kernel.0 →
+      AreSprouts eq rule plan row e (sprouts c ss) →
       AreWholes eq rule plan row e (decorated_all eq.types most (stem_trees c ss))
   row_wholes_are c row most e ss five same h = record {
     each = λ t m.
@@ -99,7 +106,9 @@ module _ (eq : Equation) (rule : Rule) (plan : RulePlan) where
         in_flat_map (decorated eq.types most) t s (stem_trees c ss) (subst (λ (u : Plain). IsIn u (stem_trees c ss)) tree (in_map (stem_tree c) z.0 ss z.1)) (whole_decorated row most t five same whole);
   }
 
-  pub row_decorable : (c : Content) (row : RuleRow) (most : Degree) (e : ℕ) (ss : List Stem) → c.types ≡ eq.types → eq.types.dims ≤ 5 → most ≡ most_at plan.mosts row.kernel.0 → AreSprouts eq rule plan row e (sprouts c ss) → All (λ s. s.id.0 < length c.trees) ss →
+  pub row_decorable : (c : Content) (row : RuleRow) (most : Degree) (e : ℕ) (ss : List Stem) →
+      c.types ≡ eq.types → eq.types.dims ≤ 5 → most ≡ most_at plan.mosts row.kernel.0 →
+      AreSprouts eq rule plan row e (sprouts c ss) → All (λ s. s.id.0 < length c.trees) ss →
       All (IsDecorable c most) ss
   row_decorable c row most e ss types five same h known = all_of_members (IsDecorable c most) ss (λ s m.
       let sprout = h.each (sprout_of c s) (in_map (sprout_of c) s ss m) in record {

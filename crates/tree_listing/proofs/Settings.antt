@@ -40,10 +40,14 @@ row_item xs ys i p e h = h ∙ ap (λ (zs : List RowPlan). get_or zs i p) e
 
 module _ (eq : Equation) (rule : Rule) (plan : RulePlan) (c : Content) (empty : TreeId) where
   -- the row of a plan at a place
-  pub row_planned : (p : RowPlan) (r : ℕ) → IsSetting eq rule plan c empty → r < length plan.rows → p ≡ get_or plan.rows r p → (row : RuleRow) × (slice_get rule.rows r ≡ Some row) × IsRowPlan eq plan.lows plan.mosts row p
+  pub row_planned : (p : RowPlan) (r : ℕ) → IsSetting eq rule plan c empty → r < length plan.rows →
+      p ≡ get_or plan.rows r p →
+      (row : RuleRow) × (slice_get rule.rows r ≡ Some row) × IsRowPlan eq plan.lows plan.mosts row p
   row_planned p r set h at = row_of_plan eq plan.lows plan.mosts rule.rows plan.rows r p set.planned.rows (slice_get-get_or plan.rows r p h ∙ ap Some (sym at))
 
-  pub row_planned_at : (p : RowPlan) (r : ℕ) (row : RuleRow) → IsSetting eq rule plan c empty → r < length plan.rows → p ≡ get_or plan.rows r p → slice_get rule.rows r ≡ Some row → IsRowPlan eq plan.lows plan.mosts row p
+  pub row_planned_at : (p : RowPlan) (r : ℕ) (row : RuleRow) → IsSetting eq rule plan c empty →
+      r < length plan.rows → p ≡ get_or plan.rows r p → slice_get rule.rows r ≡ Some row →
+      IsRowPlan eq plan.lows plan.mosts row p
   row_planned_at p r row set h at is =
       let given = row_planned p r set h at in
       subst (λ (z : RuleRow). IsRowPlan eq plan.lows plan.mosts z p) (same_row given.0 row (sym given.1 ∙ is)) given.2
@@ -51,12 +55,18 @@ module _ (eq : Equation) (rule : Rule) (plan : RulePlan) (c : Content) (empty : 
       same_row : (x y : RuleRow) → Some x ≡ Some y → x ≡ y
       same_row x y h = cc
 
-  pub growths_in : (p : RowPlan) (r : ℕ) (levels : List Level) (gs : List Growth) → IsSetting eq rule plan c empty → AreLevels eq rule plan c levels → r < length plan.rows → p ≡ get_or plan.rows r p → length levels ≤ 24 → gs ≡ growths c empty p levels r → All (IsGrowthIn c) gs
+  pub growths_in : (p : RowPlan) (r : ℕ) (levels : List Level) (gs : List Growth) →
+      IsSetting eq rule plan c empty → AreLevels eq rule plan c levels → r < length plan.rows →
+      p ≡ get_or plan.rows r p → length levels ≤ 24 → gs ≡ growths c empty p levels r →
+      All (IsGrowthIn c) gs
   growths_in p r levels gs set all h at most is =
       let row = row_planned p r set h at in
       rw is (all_of_members (IsGrowthIn c) (growths c empty p levels r) (λ g m. (growths_made eq rule plan c empty p levels r row.0 (length levels) g set all row.1 row.2 most (omega arith) m).growth))
 
-  pub growths_are : (p : RowPlan) (r : ℕ) (levels : List Level) (row : RuleRow) → IsSetting eq rule plan c empty → AreLevels eq rule plan c levels → r < length plan.rows → p ≡ get_or plan.rows r p → length levels ≤ 24 → 0 < length levels → slice_get rule.rows r ≡ Some row →
+  pub growths_are : (p : RowPlan) (r : ℕ) (levels : List Level) (row : RuleRow) →
+      IsSetting eq rule plan c empty → AreLevels eq rule plan c levels → r < length plan.rows →
+      p ≡ get_or plan.rows r p → length levels ≤ 24 → 0 < length levels →
+      slice_get rule.rows r ≡ Some row →
       AreSprouts eq rule plan row (length levels) (map (sprout_of_growth c) (growths c empty p levels r))
   growths_are p r levels row set all h at most some is =
       let planned = row_planned p r set h at in
@@ -69,10 +79,13 @@ module _ (eq : Equation) (rule : Rule) (plan : RulePlan) (c : Content) (empty : 
       some_same : (x y : RuleRow) → Some x ≡ Some y → x ≡ y
       some_same x y h = cc
 
-  planned_below : (p : RowPlan) (row : RuleRow) (i : ℕ) (n : NodeType) → IsRowPlan eq plan.lows plan.mosts row p → slice_get row.nodes i ≡ Some n → i < length p.nodes
+  planned_below : (p : RowPlan) (row : RuleRow) (i : ℕ) (n : NodeType) →
+      IsRowPlan eq plan.lows plan.mosts row p → slice_get row.nodes i ≡ Some n → i < length p.nodes
   planned_below p row i n h at = let q = node_plan_at eq plan.lows row row.nodes p.nodes i n h.nodes at in below_of p.nodes i q.0 q.1
 
-  extension_in : (p : RowPlan) (row : RuleRow) (n : NodeType) (q : PlanNode) (x : Extension) → IsRule eq rule → IsIn row rule.rows → IsRowPlan eq plan.lows plan.mosts row p → IsNodePlan eq plan.lows row n q → IsIn x q.extensions → IsExtension eq.types p x
+  extension_in : (p : RowPlan) (row : RuleRow) (n : NodeType) (q : PlanNode) (x : Extension) →
+      IsRule eq rule → IsIn row rule.rows → IsRowPlan eq plan.lows plan.mosts row p →
+      IsNodePlan eq plan.lows row n q → IsIn x q.extensions → IsExtension eq.types p x
   extension_in p row n q x r i h k m =
       let ext = k.extension x m in
       let same : labels ext.0 ≡ (x.edge.kind.0, x.edge.p.entries) ∷ labels n = ap (map label) ext.2 in
@@ -83,7 +96,8 @@ module _ (eq : Equation) (rule : Rule) (plan : RulePlan) (c : Content) (empty : 
         derivative = omega (arith, sum, all);
       }
 
-  node_of : (p : RowPlan) (row : RuleRow) (q : PlanNode) → IsRowPlan eq plan.lows plan.mosts row p → IsIn q p.nodes → (n : NodeType) × IsNodePlan eq plan.lows row n q
+  node_of : (p : RowPlan) (row : RuleRow) (q : PlanNode) → IsRowPlan eq plan.lows plan.mosts row p →
+      IsIn q p.nodes → (n : NodeType) × IsNodePlan eq plan.lows row n q
   node_of p row q h m = let place = place_of q p.nodes m in let n = node_of_plan eq plan.lows row row.nodes p.nodes place.0 q h.nodes place.1 in (n.0, n.2)
 
   pub plan_in_range : (p : RowPlan) (r : ℕ) → IsSetting eq rule plan c empty → r < length plan.rows → p ≡ get_or plan.rows r p → IsInRange c.types p
@@ -97,7 +111,9 @@ module _ (eq : Equation) (rule : Rule) (plan : RulePlan) (c : Content) (empty : 
             (λ q m. let n = node_of p row.0 q row.2 m in all_of_members (IsExtension eq.types p) q.extensions (λ x k. extension_in p row.0 n.0 q x set.normal member row.2 n.1 k));
       }
 
-  level_in : (p : RowPlan) (r : ℕ) (row : RuleRow) (levels : List Level) (e : ℕ) (level : Level) → IsRowPlan eq plan.lows plan.mosts row p → slice_get rule.rows r ≡ Some row → IsLevel eq rule plan c e level → IsLevelIn c p r level
+  level_in : (p : RowPlan) (r : ℕ) (row : RuleRow) (levels : List Level) (e : ℕ) (level : Level) →
+      IsRowPlan eq plan.lows plan.mosts row p → slice_get rule.rows r ≡ Some row →
+      IsLevel eq rule plan c e level → IsLevelIn c p r level
   level_in p r row levels e level planned at h =
       let count = h.count in
       let lt : r < length level.rows = omega (arith, count, below_of rule.rows r row at) in
@@ -109,7 +125,9 @@ module _ (eq : Equation) (rule : Rule) (plan : RulePlan) (c : Content) (empty : 
             record { id = all_at (λ (z : Stem). z.id.0 < length c.trees) (get_or level.rows r no_row).stems s own.known.stems m; node = planned_below p row s.node sprout.node planned sprout.place });
       }
 
-  pub levels_in : (p : RowPlan) (r : ℕ) (levels : List Level) → IsSetting eq rule plan c empty → AreLevels eq rule plan c levels → r < length plan.rows → p ≡ get_or plan.rows r p → All (IsLevelIn c p r) levels
+  pub levels_in : (p : RowPlan) (r : ℕ) (levels : List Level) → IsSetting eq rule plan c empty →
+      AreLevels eq rule plan c levels → r < length plan.rows → p ≡ get_or plan.rows r p →
+      All (IsLevelIn c p r) levels
   levels_in p r levels set all h at =
       let row = row_planned p r set h at in
       all_of_members (IsLevelIn c p r) levels (λ level m. let place = place_of level levels m in level_in p r row.0 levels place.0 level row.2 row.1 (all place.0 level place.1))

@@ -52,14 +52,18 @@ module _ (eq : Equation) (rule : Rule) (plan : RulePlan) (c : Content) (empty : 
   pub level_is : (levels : List Level) (e : ℕ) → AreLevels eq rule plan c levels → e < length levels → IsLevel eq rule plan c e (level_at levels e)
   level_is levels e all h = all e (level_at levels e) (slice_get-get_or levels e no_level h)
 
-  pub row_is : (levels : List Level) (e r : ℕ) (row : RuleRow) → AreLevels eq rule plan c levels → e < length levels → slice_get rule.rows r ≡ Some row → IsRowLevel eq rule plan c row e (row_at levels e r)
+  pub row_is : (levels : List Level) (e r : ℕ) (row : RuleRow) → AreLevels eq rule plan c levels →
+      e < length levels → slice_get rule.rows r ≡ Some row →
+      IsRowLevel eq rule plan c row e (row_at levels e r)
   row_is levels e r row all h at =
       let level = level_is levels e all h in
       let count = level.count in
       level.rows r row (row_at levels e r) at (slice_get-get_or (level_at levels e).rows r no_row (omega (arith, count, below_of rule.rows r row at)))
 
   -- a child from the wholes of a row
-  taken_whole : (above : ℕ) (level : Level) (s : Site) (y : RowLevel) (i : TreeId) → IsLevel eq rule plan c above level → IsIn y level.rows → y.kernel.0 ≡ s.edge.kind.0 → IsIn i y.wholes → passes c s i ≡ true → IsTaken eq rule plan c above s i
+  taken_whole : (above : ℕ) (level : Level) (s : Site) (y : RowLevel) (i : TreeId) →
+      IsLevel eq rule plan c above level → IsIn y level.rows → y.kernel.0 ≡ s.edge.kind.0 →
+      IsIn i y.wholes → passes c s i ≡ true → IsTaken eq rule plan c above s i
   taken_whole above level s y i h m k w p =
       let place = place_of y level.rows m in
       let count = h.count in
@@ -73,7 +77,9 @@ module _ (eq : Equation) (rule : Rule) (plan : RulePlan) (c : Content) (empty : 
         passed = p;
       }
 
-  taken_rows : (above : ℕ) (level : Level) (s : Site) (g : Growth) → IsLevel eq rule plan c above level → IsIn g (by_rows c s level.rows) → (i : TreeId) × IsTaken eq rule plan c above s i × (growth_of s i ≡ g)
+  taken_rows : (above : ℕ) (level : Level) (s : Site) (g : Growth) →
+      IsLevel eq rule plan c above level → IsIn g (by_rows c s level.rows) →
+      (i : TreeId) × IsTaken eq rule plan c above s i × (growth_of s i ≡ g)
   taken_rows above level s g h m =
       let y = from_flat_map (by_row c s) g level.rows m in
       elim (from_if (y.0.kernel.0 == s.edge.kind.0) g (by_children c s y.0.wholes) [] y.2) [
@@ -84,7 +90,9 @@ module _ (eq : Equation) (rule : Rule) (plan : RulePlan) (c : Content) (empty : 
         | inr f ↦ absurd f.1
       ]
 
-  taken_edge : (above : ℕ) (level : Level) (s : Site) (g : Growth) → IsSetting eq rule plan c empty → s.edge.kind.0 < length c.types.list → IsLevel eq rule plan c above level → IsIn g (by_edge c empty above level.rows s) →
+  taken_edge : (above : ℕ) (level : Level) (s : Site) (g : Growth) →
+      IsSetting eq rule plan c empty → s.edge.kind.0 < length c.types.list →
+      IsLevel eq rule plan c above level → IsIn g (by_edge c empty above level.rows s) →
       (i : TreeId) × IsTaken eq rule plan c above s i × (growth_of s i ≡ g)
   taken_edge above level s g set known h m =
       elim (from_if (is_kernel c.types s.edge.kind.0) g (by_rows c s level.rows) (if above == 0 then by_children c s (empty ∷ []) else []) m) [
@@ -117,7 +125,9 @@ module _ (eq : Equation) (rule : Rule) (plan : RulePlan) (c : Content) (empty : 
       noise_of ty k e l f = rw (sym e) (kernel_or_noise ty k l f)
 
   -- what arises at a stem is a stem
-  sprout_taken : (p : RowPlan) (row : RuleRow) (e above n : ℕ) (s : Stem) (x : Extension) (i : TreeId) → IsSetting eq rule plan c empty → IsIn row rule.rows → IsRowPlan eq plan.lows plan.mosts row p →
+  sprout_taken : (p : RowPlan) (row : RuleRow) (e above n : ℕ) (s : Stem) (x : Extension) (i : TreeId) →
+      IsSetting eq rule plan c empty → IsIn row rule.rows →
+      IsRowPlan eq plan.lows plan.mosts row p →
       IsSprout eq rule plan row e (sprout_of c s) → IsIn x (node_at p s.node).extensions → IsTaken eq rule plan c above (site_of p s x) i → 1 + above + e ≡ n → n ≤ 24 → IsSprout eq rule plan row n (sprout_of_growth c (growth_of (site_of p s x) i))
   sprout_taken p row e above n s x i set member planned sprout m taken count most =
       let k = x.edge.kind.0 in
@@ -146,7 +156,9 @@ module _ (eq : Equation) (rule : Rule) (plan : RulePlan) (c : Content) (empty : 
         type = type ∙ sym (node_type-first k d u t stem.shaped.canonical);
       }
 
-  growth_in : (row : RuleRow) (n : ℕ) (g : Growth) → IsSetting eq rule plan c empty → IsSprout eq rule plan row n (sprout_of_growth c g) → g.edge.child.0 < length c.trees → g.rest.0 < length c.trees → IsGrowthIn c g
+  growth_in : (row : RuleRow) (n : ℕ) (g : Growth) → IsSetting eq rule plan c empty →
+      IsSprout eq rule plan row n (sprout_of_growth c g) → g.edge.child.0 < length c.trees →
+      g.rest.0 < length c.trees → IsGrowthIn c g
   growth_in row n g set sprout child rest =
       let s = sprout.stem.shaped in
       let e = s.edges in
@@ -164,7 +176,9 @@ module _ (eq : Equation) (rule : Rule) (plan : RulePlan) (c : Content) (empty : 
     pub sprout : IsSprout eq rule plan row n (sprout_of_growth c g)
     pub growth : IsGrowthIn c g
 
-  level_taken : (p : RowPlan) (levels : List Level) (r : ℕ) (row : RuleRow) (e : ℕ) (g : Growth) → IsSetting eq rule plan c empty → AreLevels eq rule plan c levels → slice_get rule.rows r ≡ Some row → IsRowPlan eq plan.lows plan.mosts row p →
+  level_taken : (p : RowPlan) (levels : List Level) (r : ℕ) (row : RuleRow) (e : ℕ) (g : Growth) →
+      IsSetting eq rule plan c empty → AreLevels eq rule plan c levels →
+      slice_get rule.rows r ≡ Some row → IsRowPlan eq plan.lows plan.mosts row p →
       length levels ≤ 24 → e < length levels → IsIn g (by_level c empty p levels (length levels) r e) → IsMade row (length levels) g
   level_taken p levels r row e g set all at planned most lt m =
       let n = length levels in
@@ -188,7 +202,9 @@ module _ (eq : Equation) (rule : Rule) (plan : RulePlan) (c : Content) (empty : 
           subst (λ (ty : Types). x.edge.kind.0 < length ty.list) (sym set.types)
           (edge_known eq rule row ext.0 x.edge.kind.0 x.edge.p.entries (labels m) set.normal i (member_of row.nodes x.node ext.0 ext.1) (ap (map label) ext.2))
 
-  pub growths_made : (p : RowPlan) (levels : List Level) (r : ℕ) (row : RuleRow) (k : ℕ) (g : Growth) → IsSetting eq rule plan c empty → AreLevels eq rule plan c levels → slice_get rule.rows r ≡ Some row → IsRowPlan eq plan.lows plan.mosts row p →
+  pub growths_made : (p : RowPlan) (levels : List Level) (r : ℕ) (row : RuleRow) (k : ℕ) (g : Growth) →
+      IsSetting eq rule plan c empty → AreLevels eq rule plan c levels →
+      slice_get rule.rows r ≡ Some row → IsRowPlan eq plan.lows plan.mosts row p →
       length levels ≤ 24 → k ≤ length levels → IsIn g (growths_below c empty p levels (length levels) r k) → IsMade row (length levels) g
   growths_made p levels r row zero g set all at planned most le m = absurd m
   growths_made p levels r row (suc k) g set all at planned most le m =

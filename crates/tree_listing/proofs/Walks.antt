@@ -33,7 +33,8 @@ then_then Equal p q = refl
 then_then Greater p q = refl
 
 -- an edge of type k and derivative p in front of the first edge
-pub first_is : (c : Content) (i : ℕ) (n : List ℕ) (es : List EdgeTo) (k : ℕ) (p : List ℕ) (t : Plain) (o : Ordering) → Holds c i (tree_over c.trees n es) → 1 ≤ length es →
+pub first_is : (c : Content) (i : ℕ) (n : List ℕ) (es : List EdgeTo) (k : ℕ) (p : List ℕ) (t : Plain) (o : Ordering) →
+    Holds c i (tree_over c.trees n es) → 1 ≤ length es →
     o ≡ ordering_then (nat_cmp k (get_or es 0 no_edge).kind.0) (multi_order p (get_or es 0 no_edge).p.entries) →
     is_at_most_first k p t (tree_at c i) ≡ not (is_gt (ordering_then o (tree_order t (tree_at c (get_or es 0 no_edge).child.0))))
 first_is c i n [] k p t o h l is = absurd (omega (arith, l))
@@ -109,9 +110,12 @@ front_by c e r j Less h is = record { known = tt; is = λ i. sym (is i) }
 front_by c e r j Equal h is = record { known = h; is = λ i. sym (is i) }
 front_by c e r j Greater h is = record { known = tt; is = λ i. sym (is i) }
 
-pub front_is : (c : Content) (e : EdgeType) (r : TreeId) (n : List ℕ) (es : List EdgeTo) (o : Ordering) → Holds c r.0 (tree_over c.trees n es) → 1 ≤ length es → (get_or es 0 no_edge).child.0 < length c.trees →
+pub front_is : (c : Content) (e : EdgeType) (r : TreeId) (n : List ℕ) (es : List EdgeTo) (o : Ordering) →
+    Holds c r.0 (tree_over c.trees n es) → 1 ≤ length es →
+    (get_or es 0 no_edge).child.0 < length c.trees →
     o ≡ ordering_then (nat_cmp e.kind.0 (get_or es 0 no_edge).kind.0) (multi_order e.p.entries (get_or es 0 no_edge).p.entries) → IsFront c e r (front o (get_or es 0 no_edge).child)
 front_is c e r n es o h some known is = front_by c e r (get_or es 0 no_edge).child o known (λ i. first_is c r.0 n es e.kind.0 e.p.entries (tree_at c i.0) o h some is)
 
-pub front_all : (c : Content) (e : EdgeType) (r : TreeId) (n : List ℕ) (es : List EdgeTo) → Holds c r.0 (tree_over c.trees n es) → length es < 1 → IsFront c e r All
+pub front_all : (c : Content) (e : EdgeType) (r : TreeId) (n : List ℕ) (es : List EdgeTo) →
+    Holds c r.0 (tree_over c.trees n es) → length es < 1 → IsFront c e r All
 front_all c e r n es h none = record { known = tt; is = λ i. first_none c r.0 n es e.kind.0 e.p.entries (tree_at c i.0) h none }

@@ -1,8 +1,14 @@
 -- Decorations that a stem may have at its root.
---   Room == the degree of a stem, the most of its row, and what the entries of a decoration may add up to
+-- Working notions of the code and of proofs, which no contract of a public call names:
+--   Room == the degree of a stem, the most of its row, and what the entries of a decoration may add
+--       up to
+--   IsRoom room == what every room meets, so that sums stay in range
 --   fits ty room n == the test whether the decoration n keeps within the room
 --   with_entry i v n == n with the entry v in direction i
---   entries_below ty room i n k == those of the decorations n with an entry less than k in direction i that fit
+--   entries_below ty room i n k == those of the decorations n with an entry less than k in
+--       direction i that fit
+--   with_entries ty room i n == those with any entry in direction i that fit
+--   no_decoration == the decoration 0
 --   roots_to ty room i == the decorations in the first i directions that fit
 use Rattle.std.specs.Prelude.{◌≤◌, ℕ, zero, suc, ◌+◌, ◌&&◌, Bool, nat_le, List, [], ◌++◌, flat_map, set, sum}
 use Rattle.degree_numbers.specs.declared.multi.Multi.{Multi}
@@ -20,14 +26,16 @@ pub record IsRoom (room : Room) : Type 0 where
   pub degree_b : IsWithin room.degree.b 100000000000
 
 abbrev pub fits : Types → Room → Multi → Bool
-fits ty room n = nat_le (sum n.entries) room.entries && is_not_above (degree_plus (node_degree_of ty n.entries) room.degree) room.most
+fits ty room n = nat_le (sum n.entries) room.entries
+    && is_not_above (degree_plus (node_degree_of ty n.entries) room.degree) room.most
 
 abbrev pub with_entry : ℕ → ℕ → Multi → Multi
 with_entry i v n = record { entries = set n.entries i v }
 
 abbrev pub entries_below : Types → Room → ℕ → Multi → ℕ → List Multi
 entries_below ty room i n zero = []
-entries_below ty room i n (suc k) = entries_below ty room i n k ++ one_if (fits ty room (with_entry i k n)) (with_entry i k n)
+entries_below ty room i n (suc k) = entries_below ty room i n k
+    ++ one_if (fits ty room (with_entry i k n)) (with_entry i k n)
 
 abbrev pub with_entries : Types → Room → ℕ → Multi → List Multi
 with_entries ty room i n = entries_below ty room i n (room.entries + 1)

@@ -18,7 +18,8 @@ use std::alloc::{AllocError, Global};
 use std::cmp::Ordering;
 use tree_pool::{Pool, TreeId};
 
-/// The numbers of the listed trees that are found, in the order of the listing, and of the first tree of degree 0 in tree order.
+/// The numbers of the listed trees that are found, in the order of the listing, and of the first
+/// tree of degree 0 in tree order.
 #[derive(Drop)]
 pub struct Found {
     pub listed: Vec<TreeId>,
@@ -71,9 +72,12 @@ fn order(pool: &Pool<'_>, a: TreeId, b: TreeId) -> Ordering
 /// The place of a tree among the listed ones, unless it is there.
 fn place(pool: &Pool<'_>, listed: &[TreeId], id: TreeId) -> Option<usize>
     requires listed { All (λ i. i.0 < length pool.now.trees) listed.now }
-    requires ascending { IsStrictlySortedBy (listing_order pool.now.types) (trees pool.now listed.now) }
+    requires ascending { IsStrictlySortedBy (listing_order pool.now.types)
+        (trees pool.now listed.now) }
     requires known { id.0 < length pool.now.trees }
-    ensures { MatchOption result (IsThere pool.now.types (trees pool.now listed.now) (tree_at pool.now id.0)) (λ i. IsPlace pool.now.types (trees pool.now listed.now) (tree_at pool.now id.0) i) }
+    ensures { MatchOption result (IsThere pool.now.types (trees pool.now listed.now)
+        (tree_at pool.now id.0)) (λ i. IsPlace pool.now.types (trees pool.now listed.now)
+        (tree_at pool.now id.0) i) }
 {
     let mut low = 0;
     let mut high = listed.len();
@@ -91,9 +95,12 @@ fn place(pool: &Pool<'_>, listed: &[TreeId], id: TreeId) -> Option<usize>
 /// Puts a tree at its place among the listed ones, unless it is there.
 fn put_listed(pool: &Pool<'_>, listed: &mut Vec<TreeId>, id: TreeId) -> Result<(), AllocError>
     requires listed { All (λ i. i.0 < length pool.now.trees) listed.old.items }
-    requires ascending { IsStrictlySortedBy (listing_order pool.now.types) (trees pool.now listed.old.items) }
+    requires ascending { IsStrictlySortedBy (listing_order pool.now.types)
+        (trees pool.now listed.old.items) }
     requires known { id.0 < length pool.now.trees }
-    ensures trees { OnOk result (trees pool.now listed.new.items ≡ insert_key (listing_order pool.now.types) (trees pool.now listed.old.items) (tree_at pool.now id.0)) }
+    ensures trees { OnOk result (trees pool.now listed.new.items
+        ≡ insert_key (listing_order pool.now.types) (trees pool.now listed.old.items)
+        (tree_at pool.now id.0)) }
     ensures listed { OnOk result (All (λ i. i.0 < length pool.now.trees) listed.new.items) }
 {
     if let Some(i) = place(pool, listed.as_slice(), id) {
@@ -106,7 +113,8 @@ fn put_listed(pool: &Pool<'_>, listed: &mut Vec<TreeId>, id: TreeId) -> Result<(
 fn first_of(pool: &Pool<'_>, zero: Option<TreeId>, id: TreeId) -> TreeId
     requires zero { (i : TreeId) → zero ≡ Some i → i.0 < length pool.now.trees }
     requires known { id.0 < length pool.now.trees }
-    ensures tree { tree_at pool.now result.0 ≡ first_of (option_map (λ i. tree_at pool.now i.0) zero) (tree_at pool.now id.0) }
+    ensures tree { tree_at pool.now result.0
+        ≡ first_of (option_map (λ i. tree_at pool.now i.0) zero) (tree_at pool.now id.0) }
     ensures known { result.0 < length pool.now.trees }
 {
     match zero {
@@ -118,9 +126,11 @@ fn first_of(pool: &Pool<'_>, zero: Option<TreeId>, id: TreeId) -> TreeId
 /// Puts a tree in where it is listed, or of degree 0.
 pub fn put(pool: &Pool<'_>, found: &mut Found, id: TreeId) -> Result<(), AllocError>
     requires found { IsFoundIn pool.now found.old }
-    requires ascending { IsStrictlySortedBy (listing_order pool.now.types) (gathered pool.now found.old).listed }
+    requires ascending { IsStrictlySortedBy (listing_order pool.now.types)
+        (gathered pool.now found.old).listed }
     requires known { id.0 < length pool.now.trees }
-    ensures trees { OnOk result (gathered pool.now found.new ≡ with_tree pool.now.types (gathered pool.now found.old) (tree_at pool.now id.0)) }
+    ensures trees { OnOk result (gathered pool.now found.new ≡ with_tree pool.now.types
+        (gathered pool.now found.old) (tree_at pool.now id.0)) }
     ensures found { OnOk result (IsFoundIn pool.now found.new) }
 {
     if !is_possible(pool, id) {

@@ -41,7 +41,8 @@ fn put_children(
     requires site { IsSite pool.now site.now }
     requires frame { IsFrame pool.now site.now frame.now }
     requires children { AreIds pool.now children.now }
-    ensures { OnOk result (made.new.items ≡ made.old.items ++ by_children pool.now site.now children.now) }
+    ensures { OnOk result (made.new.items ≡ made.old.items
+        ++ by_children pool.now site.now children.now) }
 {
     for child in children {
         if passes(pool, site, frame, *child) {
@@ -62,7 +63,8 @@ fn put_row(
     requires site { IsSite pool.now site.now }
     requires frame { IsFrame pool.now site.now frame.now }
     requires row { IsRowOf pool.now row.now }
-    ensures { OnOk result (made.new.items ≡ made.old.items ++ by_children pool.now site.now row.now.wholes) }
+    ensures { OnOk result (made.new.items ≡ made.old.items
+        ++ by_children pool.now site.now row.now.wholes) }
 {
     if leaves_room(site, frame, &row.least) {
         put_children(made, pool, site, frame, row.wholes.as_slice())?;
@@ -102,7 +104,8 @@ fn put_edge(
     requires site { IsSite pool.now site.now }
     requires rows { AreRows pool.now rows.now }
     requires empty { empty.0 < length pool.now.trees }
-    ensures { OnOk result (made.new.items ≡ made.old.items ++ by_edge pool.now empty above rows.now site.now) }
+    ensures { OnOk result (made.new.items ≡ made.old.items
+        ++ by_edge pool.now empty above rows.now site.now) }
 {
     if is_kernel_type(pool.types(), site.edge.kind) {
         put_rows(made, pool, site, rows)
@@ -129,7 +132,8 @@ fn site_of(plan: &RowPlan, stem: &Stem, extension: &Extension) -> Site
     }
 }
 
-/// What a stem and its extensions are looked up in: the plan of their row, the wholes with `above` edges by rows, and the number of the empty tree.
+/// What a stem and its extensions are looked up in: the plan of their row, the wholes with `above`
+/// edges by rows, and the number of the empty tree.
 #[derive(Clone, Copy)]
 pub struct Ground<'r> {
     pub plan: &'r RowPlan,
@@ -149,7 +153,9 @@ fn put_stem(
     requires rows { AreRows pool.now ground.now.rows.now }
     requires empty { ground.now.empty.0 < length pool.now.trees }
     requires stem { IsStemIn pool.now ground.now.plan.now stem.now }
-    ensures { OnOk result (made.new.items ≡ made.old.items ++ by_stem pool.now ground.now.empty ground.now.above ground.now.rows.now ground.now.plan.now stem.now) }
+    ensures { OnOk result (made.new.items ≡ made.old.items
+        ++ by_stem pool.now ground.now.empty ground.now.above ground.now.rows.now
+        ground.now.plan.now stem.now) }
 {
     let plan = ground.plan;
     for extension in plan.nodes.as_slice()[stem.node].extensions.as_slice() {
@@ -170,7 +176,9 @@ fn put_stems(
     requires rows { AreRows pool.now ground.now.rows.now }
     requires empty { ground.now.empty.0 < length pool.now.trees }
     requires stems { All (IsStemIn pool.now ground.now.plan.now) stems.now }
-    ensures { OnOk result (made.new.items ≡ made.old.items ++ by_stems pool.now ground.now.empty ground.now.above ground.now.rows.now ground.now.plan.now stems.now) }
+    ensures { OnOk result (made.new.items ≡ made.old.items
+        ++ by_stems pool.now ground.now.empty ground.now.above ground.now.rows.now
+        ground.now.plan.now stems.now) }
 {
     for stem in stems {
         put_stem(made, pool, ground, stem)?;
@@ -178,7 +186,8 @@ fn put_stems(
     Ok(())
 }
 
-/// The stems of the next level on a row, as they are to be made: an edge is put on a stem, so that together all edges are as many as there are levels.
+/// The stems of the next level on a row, as they are to be made: an edge is put on a stem, so that
+/// together all edges are as many as there are levels.
 pub fn growths(
     alloc: Global,
     pool: &Pool<'_>,

@@ -11,7 +11,8 @@ pub struct Stem {
     pub node: usize,
 }
 
-/// The stems and the wholes with one number of edges, on the row of a kernel, and a degree that is at most that of each whole.
+/// The stems and the wholes with one number of edges, on the row of a kernel, and a degree that is
+/// at most that of each whole.
 #[derive(Debug, Drop)]
 pub struct RowLevel {
     pub kernel: TypeId,
@@ -26,8 +27,9 @@ pub struct Level {
     pub rows: Items<RowLevel>,
 }
 
-/// A place for one more edge: the stem in front of whose edges it is to stand, its type, the place of the node type that the root then has with the reserve of
-/// that node type, and the most of the row.
+/// A place for one more edge: the stem in front of whose edges it is to stand, its type, the place
+/// of the node type that the root then has with the reserve of that node type, and the most of the
+/// row.
 #[derive(Clone, Copy, Debug, PartialEq, Eq)]
 pub struct Site {
     pub rest: TreeId,
@@ -37,7 +39,8 @@ pub struct Site {
     pub most: Degree,
 }
 
-/// A stem that is to be made: the edge in front, the stem behind it, and the place of the node type of the root.
+/// A stem that is to be made: the edge in front, the stem behind it, and the place of the node type
+/// of the root.
 #[derive(Clone, Copy, Debug, PartialEq, Eq)]
 pub struct Growth {
     pub edge: EdgeTo,

@@ -36,7 +36,8 @@ const MOST_EDGES: usize = 24;
 // No tree that is not too large has a greater degree.
 const MOST_DEGREE: i64 = 100_000_000_000;
 
-/// What stays the same while levels are made: the equation, its rule with the plan of it, and the number of the empty tree.
+/// What stays the same while levels are made: the equation, its rule with the plan of it, and the
+/// number of the empty tree.
 #[derive(Clone, Copy)]
 pub struct Setting<'r> {
     pub eq: &'r Equation,
@@ -53,14 +54,19 @@ fn grown_stems(
     levels: &[Level],
     row: usize,
 ) -> Result<Items<Stem>, PoolError>
-    requires setting { IsSetting setting.now.eq.now setting.now.rule.now setting.now.plan.now pool.old setting.now.empty }
-    requires levels { AreLevels setting.now.eq.now setting.now.rule.now setting.now.plan.now pool.old levels.now }
+    requires setting { IsSetting setting.now.eq.now setting.now.rule.now setting.now.plan.now
+        pool.old setting.now.empty }
+    requires levels { AreLevels setting.now.eq.now setting.now.rule.now setting.now.plan.now
+        pool.old levels.now }
     requires row { row < length setting.now.plan.now.rows }
     requires some { 0 < length levels.now }
     requires few { length levels.now ≤ 24 }
     ensures grown { IsGrown pool.old pool.new }
     ensures known { IfOk result (λ stems. All (λ s. s.id.0 < length pool.new.trees) stems) }
-    ensures stems { IfOk result (λ stems. (r : RuleRow) → slice_get setting.now.rule.now.rows row ≡ Some r → AreSprouts setting.now.eq.now setting.now.rule.now setting.now.plan.now r (length levels.now) (sprouts pool.new stems)) }
+    ensures stems { IfOk result (λ stems. (r : RuleRow) →
+        slice_get setting.now.rule.now.rows row ≡ Some r →
+        AreSprouts setting.now.eq.now setting.now.rule.now setting.now.plan.now r
+        (length levels.now) (sprouts pool.new stems)) }
 {
     let plan = &setting.plan.rows.as_slice()[row];
     let growths = growths(alloc, pool, setting.empty, plan, levels, row)?;
@@ -70,7 +76,9 @@ fn grown_stems(
 /// The stem without an edge, on a row: the empty tree, where its reserve lets it be one.
 fn base_stems(alloc: Global, plan: &RowPlan, empty: TreeId) -> Result<Items<Stem>, AllocError>
     requires { 0 < length plan.now.nodes }
-    ensures { IfOk result (λ stems. stems ≡ one_if (is_not_above (node_at plan.now 0).reserve plan.now.most) record { id = empty; node = 0 }) }
+    ensures { IfOk result (λ stems. stems
+        ≡ one_if (is_not_above (node_at plan.now 0).reserve plan.now.most)
+        record { id = empty; node = 0 }) }
 {
     let mut stems = Items::new(alloc);
     if is_not_above(&plan.nodes.as_slice()[0].reserve, &plan.most) {
@@ -87,13 +95,18 @@ fn row_stems(
     levels: &[Level],
     row: usize,
 ) -> Result<Items<Stem>, PoolError>
-    requires setting { IsSetting setting.now.eq.now setting.now.rule.now setting.now.plan.now pool.old setting.now.empty }
-    requires levels { AreLevels setting.now.eq.now setting.now.rule.now setting.now.plan.now pool.old levels.now }
+    requires setting { IsSetting setting.now.eq.now setting.now.rule.now setting.now.plan.now
+        pool.old setting.now.empty }
+    requires levels { AreLevels setting.now.eq.now setting.now.rule.now setting.now.plan.now
+        pool.old levels.now }
     requires row { row < length setting.now.plan.now.rows }
     requires few { length levels.now ≤ 24 }
     ensures grown { IsGrown pool.old pool.new }
     ensures known { IfOk result (λ stems. All (λ s. s.id.0 < length pool.new.trees) stems) }
-    ensures stems { IfOk result (λ stems. (r : RuleRow) → slice_get setting.now.rule.now.rows row ≡ Some r → AreSprouts setting.now.eq.now setting.now.rule.now setting.now.plan.now r (length levels.now) (sprouts pool.new stems)) }
+    ensures stems { IfOk result (λ stems. (r : RuleRow) →
+        slice_get setting.now.rule.now.rows row ≡ Some r →
+        AreSprouts setting.now.eq.now setting.now.rule.now setting.now.plan.now r
+        (length levels.now) (sprouts pool.new stems)) }
 {
     if levels.is_empty() {
         let plan = &setting.plan.rows.as_slice()[row];
@@ -111,7 +124,8 @@ fn lesser(d: &Degree, e: &Degree) -> Degree
     if is_not_above(d, e) { *d } else { *e }
 }
 
-/// A degree that is at most that of each of these trees: the least of them, or where there are none the greatest of a tree that is not too large.
+/// A degree that is at most that of each of these trees: the least of them, or where there are none
+/// the greatest of a tree that is not too large.
 fn least_degree(pool: &Pool<'_>, wholes: &[TreeId]) -> Degree
     requires { AreIds pool.now wholes.now }
     ensures { IsLeast pool.now wholes.now result }
@@ -136,17 +150,28 @@ fn row_level(
     levels: &[Level],
     row: usize,
 ) -> Result<RowLevel, ListRefusal>
-    requires setting { IsSetting setting.now.eq.now setting.now.rule.now setting.now.plan.now pool.old setting.now.empty }
-    requires levels { AreLevels setting.now.eq.now setting.now.rule.now setting.now.plan.now pool.old levels.now }
+    requires setting { IsSetting setting.now.eq.now setting.now.rule.now setting.now.plan.now
+        pool.old setting.now.empty }
+    requires levels { AreLevels setting.now.eq.now setting.now.rule.now setting.now.plan.now
+        pool.old levels.now }
     requires row { row < length setting.now.plan.now.rows }
     requires few { length levels.now ≤ 24 }
     requires found { IsGood setting.now.eq.now setting.now.rule.now pool.old found.old }
     ensures grown { IsGrown pool.old pool.new }
-    ensures level { IfOk result (λ level. (r : RuleRow) → slice_get setting.now.rule.now.rows row ≡ Some r → IsRowLevel setting.now.eq.now setting.now.rule.now setting.now.plan.now pool.new r (length levels.now) level) }
-    ensures found { OnOk result (IsGood setting.now.eq.now setting.now.rule.now pool.new found.new) }
-    ensures covered { OnOk result ((r : RuleRow) → slice_get setting.now.rule.now.rows row ≡ Some r → AreCovered setting.now.eq.now setting.now.rule.now setting.now.plan.now r (length levels.now) (gathered pool.new found.new)) }
-    ensures more { OnOk result (IsMore setting.now.eq.now setting.now.rule.now (gathered pool.old found.old) (gathered pool.new found.new)) }
-    ensures many { IfErr result (λ e. e ≡ TooManyTrees → HasTooManyTrees setting.now.eq.now setting.now.rule.now) }
+    ensures level { IfOk result (λ level. (r : RuleRow) →
+        slice_get setting.now.rule.now.rows row ≡ Some r →
+        IsRowLevel setting.now.eq.now setting.now.rule.now setting.now.plan.now pool.new r
+        (length levels.now) level) }
+    ensures found { OnOk result (IsGood setting.now.eq.now setting.now.rule.now pool.new
+        found.new) }
+    ensures covered { OnOk result ((r : RuleRow) →
+        slice_get setting.now.rule.now.rows row ≡ Some r →
+        AreCovered setting.now.eq.now setting.now.rule.now setting.now.plan.now r
+        (length levels.now) (gathered pool.new found.new)) }
+    ensures more { OnOk result (IsMore setting.now.eq.now setting.now.rule.now
+        (gathered pool.old found.old) (gathered pool.new found.new)) }
+    ensures many { IfErr result (λ e. e ≡ TooManyTrees →
+        HasTooManyTrees setting.now.eq.now setting.now.rule.now) }
     ensures large { IfErr result (λ e. e ≡ TreeTooLarge → ⊥) }
 {
     let plan = &setting.plan.rows.as_slice()[row];
@@ -177,16 +202,24 @@ fn next_level(
     found: &mut Found,
     levels: &[Level],
 ) -> Result<Level, ListRefusal>
-    requires setting { IsSetting setting.now.eq.now setting.now.rule.now setting.now.plan.now pool.old setting.now.empty }
-    requires levels { AreLevels setting.now.eq.now setting.now.rule.now setting.now.plan.now pool.old levels.now }
+    requires setting { IsSetting setting.now.eq.now setting.now.rule.now setting.now.plan.now
+        pool.old setting.now.empty }
+    requires levels { AreLevels setting.now.eq.now setting.now.rule.now setting.now.plan.now
+        pool.old levels.now }
     requires few { length levels.now ≤ 24 }
     requires found { IsGood setting.now.eq.now setting.now.rule.now pool.old found.old }
     ensures grown { IsGrown pool.old pool.new }
-    ensures level { IfOk result (λ level. IsLevel setting.now.eq.now setting.now.rule.now setting.now.plan.now pool.new (length levels.now) level) }
-    ensures found { OnOk result (IsGood setting.now.eq.now setting.now.rule.now pool.new found.new) }
-    ensures covered { OnOk result ((r : RuleRow) → IsIn r setting.now.rule.now.rows → AreCovered setting.now.eq.now setting.now.rule.now setting.now.plan.now r (length levels.now) (gathered pool.new found.new)) }
-    ensures more { OnOk result (IsMore setting.now.eq.now setting.now.rule.now (gathered pool.old found.old) (gathered pool.new found.new)) }
-    ensures many { IfErr result (λ e. e ≡ TooManyTrees → HasTooManyTrees setting.now.eq.now setting.now.rule.now) }
+    ensures level { IfOk result (λ level. IsLevel setting.now.eq.now setting.now.rule.now
+        setting.now.plan.now pool.new (length levels.now) level) }
+    ensures found { OnOk result (IsGood setting.now.eq.now setting.now.rule.now pool.new
+        found.new) }
+    ensures covered { OnOk result ((r : RuleRow) → IsIn r setting.now.rule.now.rows →
+        AreCovered setting.now.eq.now setting.now.rule.now setting.now.plan.now r
+        (length levels.now) (gathered pool.new found.new)) }
+    ensures more { OnOk result (IsMore setting.now.eq.now setting.now.rule.now
+        (gathered pool.old found.old) (gathered pool.new found.new)) }
+    ensures many { IfErr result (λ e. e ≡ TooManyTrees →
+        HasTooManyTrees setting.now.eq.now setting.now.rule.now) }
     ensures large { IfErr result (λ e. e ≡ TreeTooLarge → ⊥) }
 {
     let mut rows = Items::new(alloc);
@@ -203,12 +236,17 @@ fn all_levels(
     pool: &mut Pool<'_>,
     found: &mut Found,
 ) -> Result<(), ListRefusal>
-    requires setting { IsSetting setting.now.eq.now setting.now.rule.now setting.now.plan.now pool.old setting.now.empty }
+    requires setting { IsSetting setting.now.eq.now setting.now.rule.now setting.now.plan.now
+        pool.old setting.now.empty }
     requires found { IsGood setting.now.eq.now setting.now.rule.now pool.old found.old }
     ensures grown { IsGrown pool.old pool.new }
-    ensures found { OnOk result (IsGood setting.now.eq.now setting.now.rule.now pool.new found.new) }
-    ensures covered { OnOk result ((r : RuleRow) (t : Plain) → IsIn r setting.now.rule.now.rows → IsWhole setting.now.eq.now setting.now.rule.now setting.now.plan.now.mosts r t → Covers setting.now.eq.now setting.now.rule.now (gathered pool.new found.new) t) }
-    ensures many { IfErr result (λ e. e ≡ TooManyTrees → HasTooManyTrees setting.now.eq.now setting.now.rule.now) }
+    ensures found { OnOk result (IsGood setting.now.eq.now setting.now.rule.now pool.new
+        found.new) }
+    ensures covered { OnOk result ((r : RuleRow) (t : Plain) → IsIn r setting.now.rule.now.rows →
+        IsWhole setting.now.eq.now setting.now.rule.now setting.now.plan.now.mosts r t →
+        Covers setting.now.eq.now setting.now.rule.now (gathered pool.new found.new) t) }
+    ensures many { IfErr result (λ e. e ≡ TooManyTrees →
+        HasTooManyTrees setting.now.eq.now setting.now.rule.now) }
     ensures large { IfErr result (λ e. e ≡ TreeTooLarge → ⊥) }
 {
     let mut levels = Vec::new(alloc);
@@ -233,7 +271,9 @@ pub fn gather(
     requires types { pool.old.types ≡ eq.now.types }
     ensures grown { IsGrown pool.old pool.new }
     ensures found { IfOk result (λ found. IsGood eq.now rule.now pool.new found) }
-    ensures covered { IfOk result (λ found. (r : RuleRow) (t : Plain) → IsIn r rule.now.rows → IsWhole eq.now rule.now plan.now.mosts r t → Covers eq.now rule.now (gathered pool.new found) t) }
+    ensures covered { IfOk result (λ found. (r : RuleRow) (t : Plain) → IsIn r rule.now.rows →
+        IsWhole eq.now rule.now plan.now.mosts r t →
+        Covers eq.now rule.now (gathered pool.new found) t) }
     ensures many { IfErr result (λ e. e ≡ TooManyTrees → HasTooManyTrees eq.now rule.now) }
     ensures large { IfErr result (λ e. e ≡ TreeTooLarge → ⊥) }
 {

@@ -1,4 +1,6 @@
-//! The listed trees of a rule.
+//! The listed trees of a rule: every unplanted tree of negative degree that conforms to it, each
+//! once, in order. The bounds by which they are found stand below, in `tree_budgets` and
+//! `large_trees`.
 #![tactic(auto)]
 
 mod found;

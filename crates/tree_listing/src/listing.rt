@@ -22,19 +22,23 @@ use std::alloc::Global;
 use tree_budgets::rule_plan;
 use tree_pool::{Pool, TreeId};
 
-/// The listed trees of a rule, by degree, then number of edges, then tree order, each once; and the first such tree of degree exactly 0, by number of edges, then
-/// tree order. Each by its number in the pool.
+/// The listed trees of a rule, by degree, then number of edges, then tree order, each once; and the
+/// first such tree of degree exactly 0, by number of edges, then tree order. Each by its number in
+/// the pool.
 #[derive(Debug, Drop)]
 pub struct Listing {
     pub trees: Items<TreeId>,
     pub zero: Option<TreeId>,
 }
 
-/// The listing of a rule (after Bruned, Hairer and Zambotti): the canonical trees over the types of the equation that strongly conform to the rule, are unplanted and
-/// have an edge and a degree below 0. The rule is any normal rule for which the inequality of regularities holds; there is no bound on the number or the length of
-/// its node types. Trees are added to the pool, which keeps what it had, also where there is no listing. Fails with `TooManyTrees` exactly where more than 4,000
-/// listed trees have at most 24 edges and a decoration sum of at most 64; else with `TreeTooLarge` exactly where some tree that would be listed, or would be of
-/// degree 0, has more; and for want of memory.
+/// The listing of a rule (after Bruned, Hairer and Zambotti): the canonical trees over the types of
+/// the equation that strongly conform to the rule, are unplanted and have an edge and a degree
+/// below 0. The rule is any normal rule for which the inequality of regularities holds; there is no
+/// bound on the number or the length of its node types. Trees are added to the pool, which keeps
+/// what it had, also where there is no listing. Fails with `TooManyTrees` exactly where more than
+/// 4,000 listed trees (`MOST_LISTED_TREES`) have at most 24 edges (`MOST_EDGES`) and a decoration
+/// sum of at most 64 (`MOST_LISTED_DECORATIONS`); else with `TreeTooLarge` exactly where some tree
+/// that would be listed, or would be of degree 0, has more; and for want of memory.
 pub fn list_trees<'a>(
     alloc: Global,
     eq: &Equation,
@@ -45,10 +49,14 @@ pub fn list_trees<'a>(
     requires rule { IsRule eq.now rule.now }
     requires subcritical { IsSubcritical eq.now rule.now }
     requires types { pool.old.types ≡ eq.now.types }
-    ensures known { IfOk result (λ listing. All (λ id. id.0 < length pool.new.trees) listing.trees) }
-    ensures trees { IfOk result (λ listing. IsWholeList eq.now rule.now (trees pool.new listing.trees)) }
-    ensures known_zero { IfOk result (λ listing. (id : TreeId) → listing.zero ≡ Some id → id.0 < length pool.new.trees) }
-    ensures zero { IfOk result (λ listing. IsFirstZero eq.now rule.now (option_map (λ id. tree_at pool.new id.0) listing.zero)) }
+    ensures known { IfOk result (λ listing. All (λ id. id.0 < length pool.new.trees)
+        listing.trees) }
+    ensures trees { IfOk result (λ listing. IsWholeList eq.now rule.now
+        (trees pool.new listing.trees)) }
+    ensures known_zero { IfOk result (λ listing. (id : TreeId) → listing.zero ≡ Some id →
+        id.0 < length pool.new.trees) }
+    ensures zero { IfOk result (λ listing. IsFirstZero eq.now rule.now
+        (option_map (λ id. tree_at pool.new id.0) listing.zero)) }
     ensures few { IfOk result (λ listing. HasTooManyTrees eq.now rule.now → ⊥) }
     ensures fit { IfOk result (λ listing. HasTooLargeTree eq.now rule.now → ⊥) }
     ensures many { IfErr result (λ e. e ≡ TooManyTrees → HasTooManyTrees eq.now rule.now) }

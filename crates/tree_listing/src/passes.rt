@@ -30,8 +30,8 @@ pub enum Front {
     None,
 }
 
-/// What is known of a site before a tree stands above its new edge: the degree of that edge with the stem and the reserve, their decoration sum, and which trees
-/// may stand there.
+/// What is known of a site before a tree stands above its new edge: the degree of that edge with
+/// the stem and the reserve, their decoration sum, and which trees may stand there.
 #[derive(Clone, Copy, Debug, PartialEq, Eq)]
 pub struct Frame {
     pub degree: Degree,
@@ -39,7 +39,8 @@ pub struct Frame {
     pub front: Front,
 }
 
-/// Which trees those are where the types of the edges compare so, and this tree stands above the first edge.
+/// Which trees those are where the types of the edges compare so, and this tree stands above the
+/// first edge.
 fn front_by(order: Ordering, first: TreeId) -> Front
     ensures { result ≡ front order first }
 {

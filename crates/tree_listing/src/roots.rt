@@ -10,7 +10,8 @@ use degree_numbers::{Degree, Multi, Types};
 use plain_trees::node_degree;
 use std::alloc::{AllocError, Global};
 
-/// What a decoration at the root of a stem has to keep within: the degree of the stem, the most of its row, and the greatest sum of the entries.
+/// What a decoration at the root of a stem has to keep within: the degree of the stem, the most of
+/// its row, and the greatest sum of the entries.
 #[derive(Clone, Copy, Debug, PartialEq, Eq)]
 pub struct Room {
     pub degree: Degree,
@@ -49,7 +50,8 @@ fn put_fitting(
     requires types { AreTypes types.now }
     requires room { IsRoom room.now }
     requires small { sum n.entries ≤ 128 }
-    ensures { OnOk result (more.new.items ≡ more.old.items ++ one_if (fits types.now room.now n) n) }
+    ensures { OnOk result (more.new.items ≡ more.old.items
+        ++ one_if (fits types.now room.now n) n) }
 {
     if fits(types, room, &n) {
         more.push(n)?;
@@ -57,7 +59,8 @@ fn put_fitting(
     Ok(())
 }
 
-/// Puts in the decorations that fit, with any entry in this direction: where one does not fit, no greater one does.
+/// Puts in the decorations that fit, with any entry in this direction: where one does not fit, no
+/// greater one does.
 #[tactic(auto, using(crate::proofs::RootLaws::sum_set))]
 fn put_entries(
     more: &mut Vec<Multi>,
@@ -70,7 +73,8 @@ fn put_entries(
     requires room { IsRoom room.now }
     requires direction { direction < 5 }
     requires small { sum n.now.entries ≤ 64 }
-    ensures { OnOk result (more.new.items ≡ more.old.items ++ with_entries types.now room.now direction n.now) }
+    ensures { OnOk result (more.new.items ≡ more.old.items
+        ++ with_entries types.now room.now direction n.now) }
 {
     for entry in 0..room.entries + 1 {
         let n = with_entry(n, direction, entry);
@@ -94,7 +98,8 @@ fn next_direction(
     requires room { IsRoom room.now }
     requires direction { direction < 5 }
     requires small { All (λ n. sum n.entries ≤ 64) roots.now }
-    ensures { IfOk result (λ more. more.items ≡ flat_map (with_entries types.now room.now direction) roots.now) }
+    ensures { IfOk result (λ more. more.items ≡ flat_map (with_entries types.now room.now direction)
+        roots.now) }
 {
     let mut more = Vec::new(alloc);
     for n in roots {

@@ -41,7 +41,8 @@ pub fn decorate(
 ) -> Result<TreeId, PoolError>
     requires known { stem.0 < length pool.old.trees }
     requires kept { IsKept pool.old.types (with_root n.now.entries (tree_at pool.old stem.0)) }
-    ensures tree { IfOk result (λ id. Holds pool.new id.0 (with_root n.now.entries (tree_at pool.old stem.0))) }
+    ensures tree { IfOk result (λ id. Holds pool.new id.0
+        (with_root n.now.entries (tree_at pool.old stem.0))) }
     ensures grown { IsGrown pool.old pool.new }
 {
     let (_, edges) = pool.node(stem);
@@ -55,7 +56,8 @@ pub fn stems_of(
     growths: &[Growth],
 ) -> Result<Items<Stem>, PoolError>
     requires { All (IsGrowthIn pool.old) growths.now }
-    ensures trees { IfOk result (λ stems. sprouts pool.new stems ≡ map (sprout_of_growth pool.old) growths.now) }
+    ensures trees { IfOk result (λ stems. sprouts pool.new stems ≡ map (sprout_of_growth pool.old)
+        growths.now) }
     ensures known { IfOk result (λ stems. All (λ s. s.id.0 < length pool.new.trees) stems) }
     ensures grown { IsGrown pool.old pool.new }
 {

@@ -57,10 +57,14 @@ fn put_whole(
     requires kept { IsKept pool.old.types (with_root_of (tree_at pool.old stem.0) n.now) }
     requires keeping { IsKeeping pool.old found.old wholes.old.items }
     ensures grown { IsGrown pool.old pool.new }
-    ensures trees { OnOk result (trees pool.new wholes.new.items ≡ trees pool.old wholes.old.items ++ with_root_of (tree_at pool.old stem.0) n.now ∷ []) }
-    ensures gathered { OnOk result (gathered pool.new found.new ≡ with_tree pool.old.types (gathered pool.old found.old) (with_root_of (tree_at pool.old stem.0) n.now)) }
+    ensures trees { OnOk result (trees pool.new wholes.new.items ≡ trees pool.old wholes.old.items
+        ++ with_root_of (tree_at pool.old stem.0) n.now ∷ []) }
+    ensures gathered { OnOk result (gathered pool.new found.new ≡ with_tree pool.old.types
+        (gathered pool.old found.old) (with_root_of (tree_at pool.old stem.0) n.now)) }
     ensures keeping { OnOk result (IsKeeping pool.new found.new wholes.new.items) }
-    ensures many { IfErr result (λ e. e ≡ TooManyTrees → 4000 < length (with_tree pool.old.types (gathered pool.old found.old) (with_root_of (tree_at pool.old stem.0) n.now)).listed) }
+    ensures many { IfErr result (λ e. e ≡ TooManyTrees →
+        4000 < length (with_tree pool.old.types (gathered pool.old found.old)
+        (with_root_of (tree_at pool.old stem.0) n.now)).listed) }
     ensures large { IfErr result (λ e. e ≡ TreeTooLarge → ⊥) }
 {
     let id = decorate(alloc, pool, n, stem)?;
@@ -81,13 +85,18 @@ fn put_wholes(
     roots: &[Multi],
 ) -> Result<(), ListRefusal>
     requires known { stem.0 < length pool.old.trees }
-    requires kept { All (λ n. IsKept pool.old.types (with_root_of (tree_at pool.old stem.0) n)) roots.now }
+    requires kept { All (λ n. IsKept pool.old.types (with_root_of (tree_at pool.old stem.0) n))
+        roots.now }
     requires keeping { IsKeeping pool.old found.old wholes.old.items }
     ensures grown { IsGrown pool.old pool.new }
-    ensures trees { OnOk result (trees pool.new wholes.new.items ≡ trees pool.old wholes.old.items ++ map (with_root_of (tree_at pool.old stem.0)) roots.now) }
-    ensures gathered { OnOk result (gathered pool.new found.new ≡ with_trees pool.old.types (gathered pool.old found.old) (map (with_root_of (tree_at pool.old stem.0)) roots.now)) }
+    ensures trees { OnOk result (trees pool.new wholes.new.items ≡ trees pool.old wholes.old.items
+        ++ map (with_root_of (tree_at pool.old stem.0)) roots.now) }
+    ensures gathered { OnOk result (gathered pool.new found.new ≡ with_trees pool.old.types
+        (gathered pool.old found.old) (map (with_root_of (tree_at pool.old stem.0)) roots.now)) }
     ensures keeping { OnOk result (IsKeeping pool.new found.new wholes.new.items) }
-    ensures many { IfErr result (λ e. e ≡ TooManyTrees → IsOverfull pool.old.types (gathered pool.old found.old) (map (with_root_of (tree_at pool.old stem.0)) roots.now)) }
+    ensures many { IfErr result (λ e. e ≡ TooManyTrees →
+        IsOverfull pool.old.types (gathered pool.old found.old)
+        (map (with_root_of (tree_at pool.old stem.0)) roots.now)) }
     ensures large { IfErr result (λ e. e ≡ TreeTooLarge → ⊥) }
 {
     for n in roots {
@@ -107,10 +116,15 @@ pub fn wholes_of(
     requires stems { All (IsDecorable pool.old most.now) stems.now }
     requires keeping { IsKeeping pool.old found.old [] }
     ensures grown { IsGrown pool.old pool.new }
-    ensures trees { IfOk result (λ wholes. trees pool.new wholes.items ≡ decorated_all pool.old.types most.now (stem_trees pool.old stems.now)) }
-    ensures gathered { OnOk result (gathered pool.new found.new ≡ with_trees pool.old.types (gathered pool.old found.old) (decorated_all pool.old.types most.now (stem_trees pool.old stems.now))) }
+    ensures trees { IfOk result (λ wholes. trees pool.new wholes.items
+        ≡ decorated_all pool.old.types most.now (stem_trees pool.old stems.now)) }
+    ensures gathered { OnOk result (gathered pool.new found.new ≡ with_trees pool.old.types
+        (gathered pool.old found.old) (decorated_all pool.old.types most.now
+        (stem_trees pool.old stems.now))) }
     ensures keeping { IfOk result (λ wholes. IsKeeping pool.new found.new wholes.items) }
-    ensures many { IfErr result (λ e. e ≡ TooManyTrees → IsOverfull pool.old.types (gathered pool.old found.old) (decorated_all pool.old.types most.now (stem_trees pool.old stems.now))) }
+    ensures many { IfErr result (λ e. e ≡ TooManyTrees →
+        IsOverfull pool.old.types (gathered pool.old found.old)
+        (decorated_all pool.old.types most.now (stem_trees pool.old stems.now))) }
     ensures large { IfErr result (λ e. e ≡ TreeTooLarge → ⊥) }
 {
     let mut wholes = Vec::new(alloc);

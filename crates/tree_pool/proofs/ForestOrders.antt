@@ -23,17 +23,24 @@ ids_left xs i d h = grind (arith, common_steps)
 
 module _ (R : ℕ → ℕ → Ordering) (xs ys : List TreeId) (i : ℕ) (left : slice_cmp R (numbers (drop i xs)) (numbers (drop i ys)) ≡ slice_cmp R (numbers xs) (numbers ys)) where
   -- two trees decide
-  pub lists_stop : (d e : TreeId) (o : Ordering) → i < length xs → i < length ys → o ≡ R (get_or xs i d).0 (get_or ys i e).0 → (o ≡ Equal → ⊥) → o ≡ slice_cmp R (numbers xs) (numbers ys)
+  pub lists_stop : (d e : TreeId) (o : Ordering) → i < length xs → i < length ys →
+      o ≡ R (get_or xs i d).0 (get_or ys i e).0 → (o ≡ Equal → ⊥) →
+      o ≡ slice_cmp R (numbers xs) (numbers ys)
   lists_stop d e o h k is stops =
       let cut = rw (ids_left xs i d h, ids_left ys i e k, ← is) at left in
       sym (then_stops o (slice_cmp R (numbers (drop (i + 1) xs)) (numbers (drop (i + 1) ys))) stops) ∙ cut
 
   -- two trees do not
-  pub lists_go_on : (d e : TreeId) → i < length xs → i < length ys → Equal ≡ R (get_or xs i d).0 (get_or ys i e).0 → slice_cmp R (numbers (drop (i + 1) xs)) (numbers (drop (i + 1) ys)) ≡ slice_cmp R (numbers xs) (numbers ys)
+  pub lists_go_on : (d e : TreeId) → i < length xs → i < length ys →
+      Equal ≡ R (get_or xs i d).0 (get_or ys i e).0 →
+      slice_cmp R (numbers (drop (i + 1) xs)) (numbers (drop (i + 1) ys)) ≡ slice_cmp R (numbers xs) (numbers ys)
   lists_go_on d e h k is = rw (ids_left xs i d h, ids_left ys i e k, ← is) at left
 
 -- where the lengths do not decide
-pub lengths_same : (ts : List Plain) (xs ys : List TreeId) (o : Ordering) → Equal ≡ nat_cmp (length xs) (length ys) → o ≡ slice_cmp (id_order ts) (numbers xs) (numbers ys) → o ≡ list_order ts (numbers xs) (numbers ys)
+pub lengths_same : (ts : List Plain) (xs ys : List TreeId) (o : Ordering) →
+    Equal ≡ nat_cmp (length xs) (length ys) →
+    o ≡ slice_cmp (id_order ts) (numbers xs) (numbers ys) →
+    o ≡ list_order ts (numbers xs) (numbers ys)
 lengths_same ts xs ys o same is = rw (length-map xs (λ (i : TreeId). i.0), length-map ys (λ (i : TreeId). i.0), ← same) is
 
 -- the order of forests by number is a total order
@@ -41,7 +48,8 @@ pub forest_id_order_total : (ts : List Plain) (fs : List (List ℕ)) → IsTotal
 forest_id_order_total ts fs = on_total (slice_get fs) (options_total (then_total (on_total length nat_cmp_total) (lists_total (id_order_total ts))))
 
 -- and that of the forests of the trees
-lists_of_trees : (c : Content) (xs ys : List ℕ) → AreKnown c xs → AreKnown c ys → slice_cmp (id_order c.trees) xs ys ≡ slice_cmp tree_order (trees_at c xs) (trees_at c ys)
+lists_of_trees : (c : Content) (xs ys : List ℕ) → AreKnown c xs → AreKnown c ys →
+    slice_cmp (id_order c.trees) xs ys ≡ slice_cmp tree_order (trees_at c xs) (trees_at c ys)
 lists_of_trees c [] [] h k = refl
 lists_of_trees c [] (y ∷ ys) h k = refl
 lists_of_trees c (x ∷ xs) [] h k = refl

@@ -24,7 +24,8 @@ id_order_total ts = on_total (slice_get ts) (options_total tree_order_total)
 pub id_order-at : (c : Content) (i j : ℕ) → i < length c.trees → j < length c.trees → id_order c.trees i j ≡ tree_order (tree_at c i) (tree_at c j)
 id_order-at c i j h k = rw (slice_get-get_or c.trees i (bare []) h, slice_get-get_or c.trees j (bare []) k) refl
 
-pub id_order-grown : (old new : Content) (i j : ℕ) → IsGrown old new → i < length old.trees → j < length old.trees → id_order new.trees i j ≡ id_order old.trees i j
+pub id_order-grown : (old new : Content) (i j : ℕ) → IsGrown old new → i < length old.trees →
+    j < length old.trees → id_order new.trees i j ≡ id_order old.trees i j
 id_order-grown old new i j g h k =
     let a = slice_get_some old.trees i h in
     let b = slice_get_some old.trees j k in
@@ -65,10 +66,14 @@ pub known_permuted : (c : Content) (xs ys : List ℕ) → IsPermutation xs ys �
 known_permuted c xs ys p h = by_index c ys (All-permutation (λ i. i < length c.trees) xs ys p (λ k d lt. known_at c xs k d h lt))
 
 -- one more forest
-pub forests_distinct : (fs more : List Forest) (f : List ℕ) → AreDistinct (forests_of fs) → LacksForest (forests_of fs) f → forests_of more ≡ forests_of fs ++ f ∷ [] → AreDistinct (forests_of more)
+pub forests_distinct : (fs more : List Forest) (f : List ℕ) → AreDistinct (forests_of fs) →
+    LacksForest (forests_of fs) f → forests_of more ≡ forests_of fs ++ f ∷ [] →
+    AreDistinct (forests_of more)
 forests_distinct fs more f d lacks gains = rw gains (distinct-push (forests_of fs) f d lacks)
 
-pub forest_at_end : (fs more : List Forest) (f : List ℕ) (i : ℕ) → forests_of more ≡ forests_of fs ++ f ∷ [] → i ≡ length fs → slice_get (forests_of more) i ≡ Some f
+pub forest_at_end : (fs more : List Forest) (f : List ℕ) (i : ℕ) →
+    forests_of more ≡ forests_of fs ++ f ∷ [] → i ≡ length fs →
+    slice_get (forests_of more) i ≡ Some f
 forest_at_end fs more f i gains is = let len : i ≡ length (forests_of fs) = is ∙ sym (length-map fs numbers_of) in rw (gains, len) (slice_get-end (forests_of fs) f)
 
 pub forest_found : (fs : List (List ℕ)) (i : ℕ) (f : List ℕ) → slice_get fs i ≡ Some f → forest_at fs i ≡ f
@@ -89,5 +94,7 @@ pub known_append : (c : Content) (xs ys : List ℕ) → AreKnown c xs → AreKno
 known_append c [] ys h k = k
 known_append c (x ∷ xs) ys h k = (h.0, known_append c xs ys h.1 k)
 
-pub numbers_both : (xs ys : List TreeId) (fs : List (List ℕ)) (f g : ℕ) → numbers xs ≡ forest_at fs f → numbers ys ≡ forest_at fs g → numbers (xs ++ ys) ≡ forest_at fs f ++ forest_at fs g
+pub numbers_both : (xs ys : List TreeId) (fs : List (List ℕ)) (f g : ℕ) →
+    numbers xs ≡ forest_at fs f → numbers ys ≡ forest_at fs g →
+    numbers (xs ++ ys) ≡ forest_at fs f ++ forest_at fs g
 numbers_both xs ys fs f g h k = map-append (λ (i : TreeId). i.0) xs ys ∙ rw (h, k) refl

@@ -42,7 +42,9 @@ joined_at c i j n m es fs h k =
     rw (at_holds c i (tree_over c.trees n es) h, at_holds c j (tree_over c.trees m fs) k, map-append (edge_over c.trees) es fs) (joined-grafted n m (map (edge_over c.trees) es) (map (edge_over c.trees) fs))
 
 -- a sum of multiindices is one
-zeros_plus : (dims : ℕ) (n m : List ℕ) → AllByRecursion (λ x. x ≡ 0) (drop dims n) → AllByRecursion (λ x. x ≡ 0) (drop dims m) → AllByRecursion (λ x. x ≡ 0) (drop dims (plus_of n m))
+zeros_plus : (dims : ℕ) (n m : List ℕ) → AllByRecursion (λ x. x ≡ 0) (drop dims n) →
+    AllByRecursion (λ x. x ≡ 0) (drop dims m) →
+    AllByRecursion (λ x. x ≡ 0) (drop dims (plus_of n m))
 zeros_plus dims [] m h k = k
 zeros_plus dims (x ∷ n) [] h k = h
 zeros_plus zero (x ∷ n) (y ∷ m) h k = (omega (arith, h.0, k.0), zeros_plus zero n m h.1 k.1)
@@ -64,7 +66,8 @@ types_root : (ty : Types) (n : List ℕ) (us : List Labelled) → HasTypes ty (g
 types_root ty n [] h = h
 types_root ty n (u ∷ us) h = types_root ty n us h.2
 
-types_append : (ty : Types) (n m q : List ℕ) (us vs : List Labelled) → HasTypes ty (grafted n us) → HasTypes ty (grafted m vs) → IsMultiIndex ty.dims q → HasTypes ty (grafted q (us ++ vs))
+types_append : (ty : Types) (n m q : List ℕ) (us vs : List Labelled) → HasTypes ty (grafted n us) →
+    HasTypes ty (grafted m vs) → IsMultiIndex ty.dims q → HasTypes ty (grafted q (us ++ vs))
 types_append ty n m q [] [] h k i = i
 types_append ty n m q [] (v ∷ vs) h k i = (k.0, k.1, types_append ty n m q [] vs h k.2 i)
 types_append ty n m q (u ∷ us) vs h k i = (h.0, h.1, types_append ty n m q us vs h.2 k i)
@@ -95,7 +98,8 @@ sum_root : (n : List ℕ) (us : List Labelled) → sum n ≤ decoration_sum_of (
 sum_root n [] = omega arith
 sum_root n (u ∷ us) = omega (arith, sum_root n us)
 
-pub entries_fit : (c : Content) (n m : List ℕ) (es : List EdgeTo) → IsSmall (tree_over c.trees (plus_of n m) es) → (k : ℕ) → get_or n k 0 + get_or m k 0 < 2 ^ 31
+pub entries_fit : (c : Content) (n m : List ℕ) (es : List EdgeTo) →
+    IsSmall (tree_over c.trees (plus_of n m) es) → (k : ℕ) → get_or n k 0 + get_or m k 0 < 2 ^ 31
 entries_fit c n m es small k =
     omega (arith, entry_plus n m k, entry_most (plus_of n m) k, sum_root (plus_of n m) (map (edge_over c.trees) es), small.decorations)
 
@@ -108,11 +112,13 @@ zeros (suc (suc (suc zero))) = (refl, (refl, tt))
 zeros (suc (suc (suc (suc zero)))) = (refl, tt)
 zeros (suc (suc (suc (suc (suc n))))) = let none : drop n [] ≡ [] = grind (arith, common_steps) in subst (AllByRecursion {X = ℕ} (λ x. x ≡ 0)) (sym none) tt
 
-pub planted_types : (c : Content) (k : ℕ) (p : List ℕ) (i : ℕ) → IsPooled c → i < length c.trees → IsEdge c.types k p (tree_at c i) → HasTypes c.types (planted_by k p (tree_at c i))
+pub planted_types : (c : Content) (k : ℕ) (p : List ℕ) (i : ℕ) → IsPooled c → i < length c.trees →
+    IsEdge c.types k p (tree_at c i) → HasTypes c.types (planted_by k p (tree_at c i))
 planted_types c k p i pool h edge =
     (edge, (pool.kept i (tree_at c i) (slice_get-get_or c.trees i (bare []) h)).known, record { entries = refl; rest = zeros c.types.dims })
 
-pub planted_canon : (c : Content) (k : ℕ) (p : List ℕ) (i : ℕ) → IsPooled c → i < length c.trees → canon (planted_by k p (tree_at c i)) ≡ planted_by k p (tree_at c i)
+pub planted_canon : (c : Content) (k : ℕ) (p : List ℕ) (i : ℕ) → IsPooled c → i < length c.trees →
+    canon (planted_by k p (tree_at c i)) ≡ planted_by k p (tree_at c i)
 planted_canon c k p i pool h = canon_fixed (planted_by k p (tree_at c i)) ((pool.kept i (tree_at c i) (slice_get-get_or c.trees i (bare []) h)).canonical, tt, tt)
 
 -- a tree whose subtrees are in canonical form
@@ -120,13 +126,19 @@ canon_over-same : (n : List ℕ) (us : List Labelled) → IsSame (grafted n us) 
 canon_over-same n [] = unchanged (bare n)
 canon_over-same n (u ∷ us) = on_both u.kind.0 u.p.entries (canon_same u.child) (canon_over-same n us)
 
-pub interned_same : (c : Content) (t : Tree) (es : List EdgeTo) → map (edge_over c.trees) es ≡ map canon_over (map labelled (out-Tree t).edges) → IsSame (plain t) (tree_over c.trees (out-Tree t).n.entries es)
+pub interned_same : (c : Content) (t : Tree) (es : List EdgeTo) →
+    map (edge_over c.trees) es ≡ map canon_over (map labelled (out-Tree t).edges) →
+    IsSame (plain t) (tree_over c.trees (out-Tree t).n.entries es)
 interned_same c t es h = rw (plain_out t, h) (canon_over-same (out-Tree t).n.entries (map labelled (out-Tree t).edges))
 
-pub interned_canon : (c : Content) (t : Tree) (es : List EdgeTo) → map (edge_over c.trees) es ≡ map canon_over (map labelled (out-Tree t).edges) → canon (tree_over c.trees (out-Tree t).n.entries es) ≡ canon (plain t)
+pub interned_canon : (c : Content) (t : Tree) (es : List EdgeTo) →
+    map (edge_over c.trees) es ≡ map canon_over (map labelled (out-Tree t).edges) →
+    canon (tree_over c.trees (out-Tree t).n.entries es) ≡ canon (plain t)
 interned_canon c t es h = sym (same_canon (interned_same c t es h))
 
-pub interned_small : (c : Content) (t : Tree) (es : List EdgeTo) → map (edge_over c.trees) es ≡ map canon_over (map labelled (out-Tree t).edges) → IsSmall (plain t) → IsSmall (tree_over c.trees (out-Tree t).n.entries es)
+pub interned_small : (c : Content) (t : Tree) (es : List EdgeTo) →
+    map (edge_over c.trees) es ≡ map canon_over (map labelled (out-Tree t).edges) →
+    IsSmall (plain t) → IsSmall (tree_over c.trees (out-Tree t).n.entries es)
 interned_small c t es h small =
     let same = interned_canon c t es h in
     let whole = tree_over c.trees (out-Tree t).n.entries es in
@@ -134,7 +146,9 @@ interned_small c t es h small =
     let total : decoration_sum_of whole ≡ decoration_sum_of (plain t) = sym (canon_sum whole) ∙ ap decoration_sum_of same ∙ canon_sum (plain t) in
     record { edges = rw count small.edges; decorations = rw total small.decorations }
 
-pub interned_types : (c : Content) (ty : Types) (t : Tree) (es : List EdgeTo) → map (edge_over c.trees) es ≡ map canon_over (map labelled (out-Tree t).edges) → HasTypes ty (plain t) → HasTypes ty (tree_over c.trees (out-Tree t).n.entries es)
+pub interned_types : (c : Content) (ty : Types) (t : Tree) (es : List EdgeTo) →
+    map (edge_over c.trees) es ≡ map canon_over (map labelled (out-Tree t).edges) →
+    HasTypes ty (plain t) → HasTypes ty (tree_over c.trees (out-Tree t).n.entries es)
 interned_types c ty t es h known = same_types ty (interned_same c t es h) known
 
 -- the loop over the edges of a tree
@@ -144,7 +158,8 @@ edge_made kind p id = record { kind = kind; p = p; child = record { 0 = id } }
 labelled_out : (x : Edge) → labelled x ≡ labelled_by (out-Edge x).kind (out-Edge x).p (plain (out-Edge x).child)
 labelled_out x = fold_out-Edge Labelled Plain labelled_at plain_at x
 
-pub interned_step : (c d : Content) (items : List Edge) (i : ℕ) (x : Edge) (es : List EdgeTo) (id : ℕ) → IsGrown c d → AreBelow (length c.trees) es → i < length items → x ≡ get_or items i x →
+pub interned_step : (c d : Content) (items : List Edge) (i : ℕ) (x : Edge) (es : List EdgeTo) (id : ℕ) →
+    IsGrown c d → AreBelow (length c.trees) es → i < length items → x ≡ get_or items i x →
     map (edge_over c.trees) es ≡ map canon_over (map labelled (take i items)) → Holds d id (canon (plain (out-Edge x).child)) →
     map (edge_over d.trees) (es ++ edge_made (out-Edge x).kind (out-Edge x).p id ∷ []) ≡ map canon_over (map labelled (take (i + 1) items))
 interned_step c d items i x es id g b lt at inv there =
@@ -158,11 +173,14 @@ interned_step c d items i x es id g b lt at inv there =
     ∙ ap (λ (l : Labelled). map canon_over (map labelled (take i items)) ++ l ∷ []) one
     ∙ sym (rw (taken, map-append labelled (take i items) (x ∷ [])) (map-append canon_over (map labelled (take i items)) (labelled x ∷ [])))
 
-pub interned_below : (c d : Content) (es : List EdgeTo) (e : EdgeTo) (t : Plain) → IsGrown c d → AreBelow (length c.trees) es → Holds d e.child.0 t → AreBelow (length d.trees) (es ++ e ∷ [])
+pub interned_below : (c d : Content) (es : List EdgeTo) (e : EdgeTo) (t : Plain) → IsGrown c d →
+    AreBelow (length c.trees) es → Holds d e.child.0 t → AreBelow (length d.trees) (es ++ e ∷ [])
 interned_below c d es e t g b there =
     below_append (length d.trees) es (e ∷ []) (AreBelow-le (length c.trees) (length d.trees) es (grown_length c d g) b) (slice_get_within d.trees e.child.0 t there, tt)
 
-pub all_edges : (c : Content) (t : Tree) (items : List Edge) (i : ℕ) (es : List EdgeTo) → items ≡ (out-Tree t).edges → length items ≤ i → map (edge_over c.trees) es ≡ map canon_over (map labelled (take i items)) →
+pub all_edges : (c : Content) (t : Tree) (items : List Edge) (i : ℕ) (es : List EdgeTo) →
+    items ≡ (out-Tree t).edges → length items ≤ i →
+    map (edge_over c.trees) es ≡ map canon_over (map labelled (take i items)) →
     map (edge_over c.trees) es ≡ map canon_over (map labelled (out-Tree t).edges)
 all_edges c t items i es is h inv =
     let taken : take i items ≡ items = grind (arith, common_steps) in

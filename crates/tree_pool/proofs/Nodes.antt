@@ -25,15 +25,18 @@ node_at nodes c ty i x e pool at =
 abbrev content : Types → List Node → Content
 content ty nodes = record { types = ty; trees = made_trees (shapes nodes) }
 
-pub tree_there : (nodes : List Node) (c : Content) (ty : Types) (i : ℕ) (n : List ℕ) (es : List EdgeTo) → content ty nodes ≡ c → AreNodes ty (shapes nodes) → IsShapeAt (shapes nodes) i n es →
+pub tree_there : (nodes : List Node) (c : Content) (ty : Types) (i : ℕ) (n : List ℕ) (es : List EdgeTo) →
+    content ty nodes ≡ c → AreNodes ty (shapes nodes) → IsShapeAt (shapes nodes) i n es →
     Holds c i (tree_over c.trees n es)
 tree_there nodes c ty i n es e pool h = rw (ap (λ (d : Content). d.trees) e) at (made_trees-at (shapes nodes) i record { n = n; edges = es } pool.made h).0
 
-pub trees_pushed : (nodes more : List Node) (ts : List Plain) (n : List ℕ) (es : List EdgeTo) → made_trees (shapes nodes) ≡ ts → GainsShape (shapes nodes) (shapes more) n es →
+pub trees_pushed : (nodes more : List Node) (ts : List Plain) (n : List ℕ) (es : List EdgeTo) →
+    made_trees (shapes nodes) ≡ ts → GainsShape (shapes nodes) (shapes more) n es →
     made_trees (shapes more) ≡ ts ++ tree_over ts n es ∷ []
 trees_pushed nodes more ts n es e gains = ap made_trees gains ∙ rw e at (trees_after-push [] (shapes nodes) record { n = n; edges = es })
 
-pub pool_pushed : (nodes more : List Node) (c : Content) (ty : Types) (n : List ℕ) (es : List EdgeTo) → content ty nodes ≡ c → AreNodes ty (shapes nodes) → AreBelow (length c.trees) es →
+pub pool_pushed : (nodes more : List Node) (c : Content) (ty : Types) (n : List ℕ) (es : List EdgeTo) →
+    content ty nodes ≡ c → AreNodes ty (shapes nodes) → AreBelow (length c.trees) es →
     LacksShape (shapes nodes) n es → GainsShape (shapes nodes) (shapes more) n es → IsKept c.types (tree_over c.trees n es) → AreNodes ty (shapes more)
 pool_pushed nodes more c ty n es e pool b lacks gains keeps =
     let ts : made_trees (shapes nodes) ≡ c.trees = ap (λ (d : Content). d.trees) e in
@@ -41,14 +44,16 @@ pool_pushed nodes more c ty n es e pool b lacks gains keeps =
     let len : length c.trees ≡ length (shapes nodes) = ap length (sym ts) ∙ length-made_trees (shapes nodes) in
     rw gains (AreNodes-push ty (shapes nodes) n es pool (rw len at b) lacks (rw (ts, same) keeps))
 
-pub pushed_holds : (nodes more : List Node) (c : Content) (ty : Types) (n : List ℕ) (es : List EdgeTo) (i : ℕ) → content ty nodes ≡ c → GainsShape (shapes nodes) (shapes more) n es → i ≡ length nodes →
+pub pushed_holds : (nodes more : List Node) (c : Content) (ty : Types) (n : List ℕ) (es : List EdgeTo) (i : ℕ) →
+    content ty nodes ≡ c → GainsShape (shapes nodes) (shapes more) n es → i ≡ length nodes →
     Holds (content ty more) i (tree_over c.trees n es)
 pushed_holds nodes more c ty n es i e gains is =
     let ts : made_trees (shapes nodes) ≡ c.trees = ap (λ (d : Content). d.trees) e in
     let len : i ≡ length c.trees = is ∙ sym (length-shapes nodes) ∙ sym (length-made_trees (shapes nodes)) ∙ ap length ts in
     rw (trees_pushed nodes more c.trees n es ts gains, len) (slice_get-end c.trees (tree_over c.trees n es))
 
-pub pushed_grown : (nodes more : List Node) (c : Content) (ty : Types) (n : List ℕ) (es : List EdgeTo) → content ty nodes ≡ c → GainsShape (shapes nodes) (shapes more) n es →
+pub pushed_grown : (nodes more : List Node) (c : Content) (ty : Types) (n : List ℕ) (es : List EdgeTo) →
+    content ty nodes ≡ c → GainsShape (shapes nodes) (shapes more) n es →
     IsGrownBy c (content ty more) (tree_over c.trees n es)
 pushed_grown nodes more c ty n es e gains = record {
   types = ap (λ (d : Content). d.types) e;
@@ -56,7 +61,8 @@ pushed_grown nodes more c ty n es e gains = record {
 }
 
 -- the measures that are kept of a tree are its own
-pub measures_at : (nodes : List Node) (ms : List Measures) (c : Content) (ty : Types) (i : ℕ) (m : Measures) → content ty nodes ≡ c → AreMeasured ty nodes ms → i < length c.trees → m ≡ get_or ms i m →
+pub measures_at : (nodes : List Node) (ms : List Measures) (c : Content) (ty : Types) (i : ℕ) (m : Measures) →
+    content ty nodes ≡ c → AreMeasured ty nodes ms → i < length c.trees → m ≡ get_or ms i m →
     m ≡ measure c.types (tree_at c i)
 measures_at nodes ms c ty i m e measured h at =
     let ts : made_trees (shapes nodes) ≡ c.trees = ap (λ (d : Content). d.trees) e in
@@ -67,11 +73,13 @@ measures_at nodes ms c ty i m e measured h at =
     rw (ts, same) at found
 
 -- there are as many as there are trees
-pub length-measures : (nodes : List Node) (ms : List Measures) (c : Content) (ty : Types) → content ty nodes ≡ c → AreMeasured ty nodes ms → length ms ≡ length c.trees
+pub length-measures : (nodes : List Node) (ms : List Measures) (c : Content) (ty : Types) →
+    content ty nodes ≡ c → AreMeasured ty nodes ms → length ms ≡ length c.trees
 length-measures nodes ms c ty e measured = ap length measured ∙ length-map (made_trees (shapes nodes)) (measure ty) ∙ ap (λ (d : Content). length d.trees) e
 
 -- one more node, and the measures of its tree
-pub measures_pushed : (nodes more : List Node) (ms ks : List Measures) (c : Content) (ty : Types) (n : List ℕ) (es : List EdgeTo) (m : Measures) → content ty nodes ≡ c → AreMeasured ty nodes ms →
+pub measures_pushed : (nodes more : List Node) (ms ks : List Measures) (c : Content) (ty : Types) (n : List ℕ) (es : List EdgeTo) (m : Measures) →
+    content ty nodes ≡ c → AreMeasured ty nodes ms →
     GainsShape (shapes nodes) (shapes more) n es → ks ≡ ms ++ m ∷ [] → m ≡ measure c.types (tree_over c.trees n es) → AreMeasured ty more ks
 measures_pushed nodes more ms ks c ty n es m e measured gains kept is =
     let same : ty ≡ c.types = ap (λ (d : Content). d.types) e in

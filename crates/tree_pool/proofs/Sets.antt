@@ -1,4 +1,5 @@
--- What a look-up in a hashed set and an insertion say, where `==` of the keys decides equality of what contracts see of them.
+-- What a look-up in a hashed set and an insertion say, where `==` of the keys decides equality of
+-- what contracts see of them.
 use Rattle.std.proofs.Common.{◌≡◌, ◌≢◌, ◌∙◌, ℕ, suc, ◌<◌, Bool, true, false, List, [], ◌∷◌, ◌++◌, ap, refl, sym, arith, length, map, get_or, slice_get, position, Option, Some, None, is_some, MatchOption, if◌then◌else◌}
 use Rattle.std.specs.Bool.{Decides}
 use Rattle.std.specs.List.{list_any}
@@ -38,5 +39,7 @@ module _ {K V : Type 0} (eq : K → K → Bool) (view : K → V) (decides : (a b
       rw (here, none_alike k xs (λ i. lacks (suc i))) refl
 
   -- so it goes last
-  pub goes_last : (k : K) (xs ys : List K) → ((i : ℕ) → slice_get (map view xs) i ≢ Some (view k)) → ys ≡ (if list_any (eq k) xs then xs else xs ++ k ∷ []) → map view ys ≡ map view xs ++ view k ∷ []
+  pub goes_last : (k : K) (xs ys : List K) → ((i : ℕ) → slice_get (map view xs) i ≢ Some (view k)) →
+      ys ≡ (if list_any (eq k) xs then xs else xs ++ k ∷ []) →
+      map view ys ≡ map view xs ++ view k ∷ []
   goes_last k xs ys lacks e = let none = none_alike k xs lacks in ap (map view) (rw none at e) ∙ map-append view xs (k ∷ [])

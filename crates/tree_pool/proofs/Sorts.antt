@@ -23,7 +23,8 @@ place-le f p xs = omega (arith, length-map xs f, prefix_len-le-length p (map f x
 map-insert : (f : EdgeTo → Labelled) (xs : List EdgeTo) (i : ℕ) (e : EdgeTo) → map f (insert xs i e) ≡ insert (map f xs) i (f e)
 map-insert f xs i e = map-append f (take i xs) (e ∷ drop i xs) ∙ rw (take-map f i xs, drop-map f i xs) refl
 
-pub inserted : (ts : List Plain) (n : List ℕ) (xs : List EdgeTo) (e : EdgeTo) (i : ℕ) → i ≡ prefix_len (λ f. is_gt (edge_order_of (edge_over ts e) f)) (map (edge_over ts) xs) →
+pub inserted : (ts : List Plain) (n : List ℕ) (xs : List EdgeTo) (e : EdgeTo) (i : ℕ) →
+    i ≡ prefix_len (λ f. is_gt (edge_order_of (edge_over ts e) f)) (map (edge_over ts) xs) →
     tree_over ts n (insert xs i e) ≡ with_edge (planted_of (edge_over ts e)) (tree_over ts n xs)
 inserted ts n xs e i h = rw (map-insert (edge_over ts) xs i e, h) (sym (with_edge-insert n (edge_over ts e) (map (edge_over ts) xs)))
 
@@ -40,7 +41,8 @@ pub below_insert : (b : ℕ) (xs : List EdgeTo) (i : ℕ) (e : EdgeTo) → AreBe
 below_insert b xs i e h k = below_append b (take i xs) (e ∷ drop i xs) (below_take b i xs h) (k, below_left b xs i h)
 
 -- the edges from the one before i on
-pub sort_step : (c : Content) (n : List ℕ) (es : List EdgeTo) (i : ℕ) (d : EdgeTo) (sorted more : List EdgeTo) → 0 < i → i ≤ length es → AreBelow (length c.trees) es → IsPooled c →
+pub sort_step : (c : Content) (n : List ℕ) (es : List EdgeTo) (i : ℕ) (d : EdgeTo) (sorted more : List EdgeTo) →
+    0 < i → i ≤ length es → AreBelow (length c.trees) es → IsPooled c →
     tree_over c.trees n sorted ≡ canon (tree_over c.trees n (drop i es)) →
     tree_over c.trees n more ≡ with_edge (planted_of (edge_over c.trees (get_or es (i - 1) d))) (tree_over c.trees n sorted) →
     tree_over c.trees n more ≡ canon (tree_over c.trees n (drop (i - 1) es))

@@ -21,7 +21,8 @@ length-made_trees xs = omega (arith, length-trees_after [] xs)
 pub length-shapes : (xs : List Node) → length (shapes xs) ≡ length xs
 length-shapes xs = grind (arith, common_steps)
 
-pub trees_after-push : (ts : List Plain) (xs : List Shape) (x : Shape) → trees_after ts (xs ++ x ∷ []) ≡ trees_after ts xs ++ tree_of_shape (trees_after ts xs) x ∷ []
+pub trees_after-push : (ts : List Plain) (xs : List Shape) (x : Shape) →
+    trees_after ts (xs ++ x ∷ []) ≡ trees_after ts xs ++ tree_of_shape (trees_after ts xs) x ∷ []
 trees_after-push ts [] x = refl
 trees_after-push ts (y ∷ ys) x = trees_after-push (ts ++ tree_of_shape ts y ∷ []) ys x
 
@@ -101,14 +102,17 @@ IsMadeFrom-push i (y ∷ ys) x made b =
     let shifted : i + suc (length ys) ≡ i + 1 + length ys = omega arith in
     (made.0, IsMadeFrom-push (i + 1) ys x made.1 (rw shifted at b))
 
-pub slice_get-append_cases : {X : Type 0} (xs : List X) (y : X) (i : ℕ) (x : X) → slice_get (xs ++ y ∷ []) i ≡ Some x → (slice_get xs i ≡ Some x) ⊎ ((i ≡ length xs) × (y ≡ x))
+pub slice_get-append_cases : {X : Type 0} (xs : List X) (y : X) (i : ℕ) (x : X) →
+    slice_get (xs ++ y ∷ []) i ≡ Some x → (slice_get xs i ≡ Some x) ⊎ ((i ≡ length xs) × (y ≡ x))
 slice_get-append_cases [] y zero x h = inr (refl, cc)
 slice_get-append_cases [] y (suc i) x h = absurd cc
 slice_get-append_cases (z ∷ xs) y zero x h = inl h
 slice_get-append_cases (z ∷ xs) y (suc i) x h = elim (slice_get-append_cases xs y i x h) [ inl g ↦ inl g | inr g ↦ inr (omega (arith, g.0), g.1) ]
 
 -- distinct values and one more that is not among them
-pub distinct-push : {X : Type 0} (xs : List X) (x : X) → ((i j : ℕ) (y : X) → slice_get xs i ≡ Some y → slice_get xs j ≡ Some y → i ≡ j) → ((i : ℕ) → slice_get xs i ≢ Some x) →
+pub distinct-push : {X : Type 0} (xs : List X) (x : X) →
+    ((i j : ℕ) (y : X) → slice_get xs i ≡ Some y → slice_get xs j ≡ Some y → i ≡ j) →
+    ((i : ℕ) → slice_get xs i ≢ Some x) →
     (i j : ℕ) (y : X) → slice_get (xs ++ x ∷ []) i ≡ Some y → slice_get (xs ++ x ∷ []) j ≡ Some y → i ≡ j
 distinct-push xs x d lacks i j y hi hj =
     elim (slice_get-append_cases xs x i y hi) [
@@ -128,7 +132,8 @@ slice_get_some (x ∷ xs) zero h = (x, refl)
 slice_get_some (x ∷ xs) (suc i) h = slice_get_some xs i (omega (arith, h))
 
 -- a node that is not there makes a tree that is not there
-pub lacks_tree : (xs : List Shape) (n : List ℕ) (es : List EdgeTo) → IsMadeFrom 0 xs → IsDistinct (made_trees xs) → AreBelow (length xs) es → LacksShape xs n es →
+pub lacks_tree : (xs : List Shape) (n : List ℕ) (es : List EdgeTo) → IsMadeFrom 0 xs →
+    IsDistinct (made_trees xs) → AreBelow (length xs) es → LacksShape xs n es →
     (i : ℕ) → slice_get (made_trees xs) i ≢ Some (tree_over (made_trees xs) n es)
 lacks_tree xs n es made distinct b lacks i h =
     let len = length-made_trees xs in
@@ -142,7 +147,9 @@ lacks_tree xs n es made distinct b lacks i h =
     lacks i (node.1 ∙ ap Some shape)
 
 -- the nodes with one more
-pub AreNodes-push : (ty : Types) (xs : List Shape) (n : List ℕ) (es : List EdgeTo) → AreNodes ty xs → AreBelow (length xs) es → LacksShape xs n es → IsKept ty (tree_over (made_trees xs) n es) →
+pub AreNodes-push : (ty : Types) (xs : List Shape) (n : List ℕ) (es : List EdgeTo) →
+    AreNodes ty xs → AreBelow (length xs) es → LacksShape xs n es →
+    IsKept ty (tree_over (made_trees xs) n es) →
     AreNodes ty (xs ++ record { n = n; edges = es } ∷ [])
 AreNodes-push ty xs n es nodes b lacks keeps =
     let trees : made_trees (xs ++ record { n = n; edges = es } ∷ []) ≡ made_trees xs ++ tree_over (made_trees xs) n es ∷ [] = trees_after-push [] xs record { n = n; edges = es } in
@@ -160,7 +167,8 @@ IsIn-at (t ∷ ts) zero j h k = absurd (omega (arith, h))
 IsIn-at (t ∷ ts) (suc i) zero h k = inl refl
 IsIn-at (t ∷ ts) (suc i) (suc j) h k = inr (IsIn-at ts i j (omega (arith, h)) (omega (arith, k)))
 
-pub children_among : (ts : List Plain) (i : ℕ) (n : List ℕ) (es : List EdgeTo) → i ≤ length ts → AreBelow i es → HasChildrenAmong (take i ts) (tree_over ts n es)
+pub children_among : (ts : List Plain) (i : ℕ) (n : List ℕ) (es : List EdgeTo) → i ≤ length ts →
+    AreBelow i es → HasChildrenAmong (take i ts) (tree_over ts n es)
 children_among ts i n [] k b = tt
 children_among ts i n (e ∷ es) k b = (IsIn-at ts i e.child.0 b.0 k, children_among ts i n es k b.1)
 

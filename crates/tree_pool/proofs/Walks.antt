@@ -93,7 +93,9 @@ edges_whole c i j n m es fs h k =
 pub same_tree : (c : Content) (i j : ℕ) → i ≡ j → Equal ≡ tree_order (tree_at c i) (tree_at c j)
 same_tree c i j e = rw (← e) (sym (tied_itself tree_order_total (tree_at c i)))
 
-pub order_roots : (s t : Plain) (o : Ordering) → Equal ≡ nat_cmp (edge_count_of s) (edge_count_of t) → o ≡ slice_cmp nat_cmp (root_of s) (root_of t) → (o ≡ Equal → ⊥) → o ≡ tree_order s t
+pub order_roots : (s t : Plain) (o : Ordering) →
+    Equal ≡ nat_cmp (edge_count_of s) (edge_count_of t) →
+    o ≡ slice_cmp nat_cmp (root_of s) (root_of t) → (o ≡ Equal → ⊥) → o ≡ tree_order s t
 order_roots s t o counts is stops = rw (← counts, ← is) (sym (then_stops o (edges_order s t) stops))
 
 -- two edges decide
@@ -123,7 +125,8 @@ nat_cmp-minus : (a b i : ℕ) → i ≤ a → i ≤ b → nat_cmp (a - i) (b - i
 nat_cmp-minus a b i ha hb = grind (arith, nat_tests)
 
 -- where one list is empty, the lengths decide
-edges_order-end : (n m : List ℕ) (us vs : List Labelled) → min (length us) (length vs) ≡ 0 → edges_order (grafted n us) (grafted m vs) ≡ nat_cmp (length us) (length vs)
+edges_order-end : (n m : List ℕ) (us vs : List Labelled) → min (length us) (length vs) ≡ 0 →
+    edges_order (grafted n us) (grafted m vs) ≡ nat_cmp (length us) (length vs)
 edges_order-end n m [] [] h = refl
 edges_order-end n m [] (v ∷ vs) h = grind (arith, nat_tests)
 edges_order-end n m (u ∷ us) [] h = grind (arith, nat_tests)

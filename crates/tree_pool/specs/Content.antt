@@ -1,21 +1,26 @@
 -- What a pool holds, as contracts see it.
+-- What contracts of public calls say:
 --   Content == the types that a pool was made with, and its trees by number
 --   content_code == a code for contents: the pair of the fields
 --   tree_at c i == the tree with the number i
 --   trees_at c is, trees_of c ids == the trees with the numbers is, ids, in their order
 --   Holds c i t == the tree with the number i is t
---   labelled_by kind p t == the edge of this type and derivative decoration, with the tree t above it
+--   labelled_by kind p t == the edge of this type and derivative decoration, with the tree t above
+--       it
 --   edge_over ts e == the edge e, with the tree above it that its number names
---   canon_over e == the edge e, with the canonical form of the tree above it
 --   tree_over ts n es == the tree with root decoration n and the edges es
---   id_order ts i j == tree order of the trees with the numbers i and j in ts; a number past the end comes first
+--   id_order ts i j == tree order of the trees with the numbers i and j in ts; a number past the
+--       end comes first
 --   AreBelow i es == each of the edges es names one of the first i trees
 --   IsDistinct ts == no tree stands at two places
 --   IsKept ty t == t is canonical, small, and of the types ty
 --   HasChildrenAmong ts t == each tree above an edge of the root of t is one of ts
 --   IsPooled c == what the content of every pool meets
---   IsGrown old new == new has the types and the trees of old, under the same numbers, and maybe more trees behind them
+--   IsGrown old new == new has the types and the trees of old, under the same numbers, and maybe
+--       more trees behind them
 --   IsGrownBy old new t == new is old, or old with t behind its trees
+-- Working notions of the code and of proofs:
+--   canon_over e == the edge e, with the canonical form of the tree above it
 use Rattle.std.specs.Prelude.{◌≡◌, ◌⊎◌, ℕ, ◌<◌, List, [], ◌∷◌, ◌++◌, map, take, slice_get, slice_index_or, Some, ⊤, refl}
 use Rattle.std.specs.Coded.{Coded, code_by, coded×, coded_list}
 use Rattle.std.specs.Option.{option_cmp}
@@ -40,7 +45,8 @@ pub record Content : Type 0 where
 
 -- a content is stored as the pair of its fields
 abbrev pub content_code : Coded Content
-content_code = code_by (Types × List Plain) (coded× types_code (coded_list plain_code)) (λ c. (c.types, c.trees)) (λ p. record { types = p.0; trees = p.1 }) (λ _. refl)
+content_code = code_by (Types × List Plain) (coded× types_code (coded_list plain_code))
+    (λ c. (c.types, c.trees)) (λ p. record { types = p.0; trees = p.1 }) (λ _. refl)
 
 abbrev pub tree_at : Content → ℕ → Plain
 tree_at c i = slice_index_or c.trees i (bare [])
@@ -89,7 +95,8 @@ pub record IsPooled (c : Content) : Type 0 where
   pub types : AreTypes c.types
   pub distinct : IsDistinct c.trees
   pub kept : (i : ℕ) (t : Plain) → slice_get c.trees i ≡ Some t → IsKept c.types t
-  pub children : (i : ℕ) (t : Plain) → slice_get c.trees i ≡ Some t → HasChildrenAmong (take i c.trees) t
+  pub children : (i : ℕ) (t : Plain) → slice_get c.trees i ≡ Some t →
+      HasChildrenAmong (take i c.trees) t
 
 pub record IsGrown (old new : Content) : Type 0 where
   pub types : new.types ≡ old.types

@@ -1,16 +1,21 @@
--- Forests of trees of a pool, each once. A forest is the list of the numbers of its trees, in tree order.
+-- Forests of trees of a pool, each once. A forest is the list of the numbers of its trees, in tree
+-- order.
+-- What contracts of public calls say:
 --   numbers ids == the numbers ids, as contracts of forests see them
 --   numbers_of f, forests_of fs == the same of a forest, of each of a list of forests
 --   forest_at fs i == the forest with the number i
 --   AreKnown c ids == each of the numbers ids is that of a tree of the pool
 --   IsForest c f == f names trees of the pool, in their tree order
 --   IsSorting c ids f == f is the list ids in tree order of the trees
---   list_order ts xs ys == the order of the lists of the trees with the numbers xs and ys in ts: by length, then lexicographically
---   forest_id_order ts fs f g == that of the forests with the numbers f and g in fs; a number past the end comes first
---   LacksForest fs f == f is none of the forests fs
+--   list_order ts xs ys == the order of the lists of the trees with the numbers xs and ys in ts: by
+--       length, then lexicographically
+--   forest_id_order ts fs f g == that of the forests with the numbers f and g in fs; a number past
+--       the end comes first
 --   AreDistinct fs == no forest stands at two places
 --   Fits fs c == each of the forests fs is one of the pool
 --   IsGrownWith old new f == new is old, or old with the forest f behind it
+-- Working notions of the code and of proofs:
+--   LacksForest fs f == f is none of the forests fs
 use Rattle.std.specs.Prelude.{◌≡◌, ◌≢◌, ◌⊎◌, ℕ, ◌<◌, List, [], ◌∷◌, ◌++◌, map, length, slice_get, slice_index_or, Some}
 use Rattle.std.specs.Cmp.Lexicographic.{slice_cmp}
 use Rattle.std.specs.List.{AllByRecursion}
@@ -50,7 +55,8 @@ abbrev pub Fits : List (List ℕ) → Content → Type 0
 Fits fs c = (i : ℕ) (f : List ℕ) → slice_get fs i ≡ Some f → IsForest c f
 
 abbrev pub list_order : List Plain → List ℕ → List ℕ → Ordering
-list_order ts xs ys = ordering_then (nat_cmp (length xs) (length ys)) (slice_cmp (id_order ts) xs ys)
+list_order ts xs ys =
+    ordering_then (nat_cmp (length xs) (length ys)) (slice_cmp (id_order ts) xs ys)
 
 abbrev pub forest_id_order : List Plain → List (List ℕ) → ℕ → ℕ → Ordering
 forest_id_order ts fs f g = option_cmp (list_order ts) (slice_get fs f) (slice_get fs g)

@@ -1,4 +1,5 @@
 -- The nodes of a pool and the trees that they stand for.
+-- What contracts of public calls say:
 --   Shape == the root decoration and the edges of a node, as lists
 --   shape_of x, shapes xs == the shape of the node x, the shapes of the nodes xs
 --   tree_of_shape ts x == the tree of the shape x, its edges leading to trees of ts
@@ -8,7 +9,9 @@
 --   AreNodes ty xs == what the shapes of the nodes of every pool with the types ty meet
 --   measure ty t == the degree, the number of edges and the decoration sum of t
 --   AreMeasured ty xs ms == ms are the measures of the trees of the nodes xs, by place
---   AreMeasuredNodes ty xs ms == what the nodes of every pool with the types ty meet, with the measures that it keeps of them
+--   AreMeasuredNodes ty xs ms == what the nodes of every pool with the types ty meet, with the
+--       measures that it keeps of them
+-- Working notions of the code and of proofs:
 --   IsShapeAt xs i n es == the node at place i has root decoration n and the edges es
 --   LacksShape xs n es == no node has root decoration n and the edges es
 --   GainsShape xs ys n es == ys is xs with such a node behind it
@@ -56,7 +59,8 @@ pub record AreNodes (ty : Types) (xs : List Shape) : Type 0 where
   pub kept : (i : ℕ) (t : Plain) → slice_get (made_trees xs) i ≡ Some t → IsKept ty t
 
 abbrev pub measure : Types → Plain → Measures
-measure ty t = record { degree = degree_of ty t; edges = edge_count_of t; decorations = decoration_sum_of t }
+measure ty t =
+    record { degree = degree_of ty t; edges = edge_count_of t; decorations = decoration_sum_of t }
 
 abbrev pub AreMeasured : Types → List Node → List Measures → Type 0
 AreMeasured ty xs ms = ms ≡ map (measure ty) (made_trees (shapes xs))

@@ -11,8 +11,8 @@ use degree_numbers::{Degree, Multi, Types};
 use plain_trees::{edge_degree, node_degree};
 
 impl<'a> Pool<'a> {
-    /// The degree of a tree, by the types of the pool (Bruned, Hairer, Zambotti): the sum of |type| - |p|_s over its edges and of |n|_s over its nodes. Takes no
-    /// memory and no walk.
+    /// The degree of a tree, by the types of the pool (Bruned, Hairer, Zambotti): the sum of |type|
+    /// - |p|_s over its edges and of |n|_s over its nodes. Takes no memory and no walk.
     pub fn degree(&self, id: TreeId) -> Degree
         requires { id.0 < length self.now.trees }
         ensures { result ≡ degree_of self.now.types (tree_at self.now id.0) }
@@ -20,7 +20,8 @@ impl<'a> Pool<'a> {
         self.measures(id).degree
     }
 
-    /// The degree of the tree with this decoration and these edges at its root, by the types of the pool, which are passed.
+    /// The degree of the tree with this decoration and these edges at its root, by the types of the
+    /// pool, which are passed.
     pub(crate) fn degree_over(&self, types: &Types, n: &Multi, edges: &[EdgeTo]) -> Degree
         requires types { types.now ≡ self.now.types }
         requires accepted { AreTypes types.now }

@@ -11,24 +11,30 @@ use indexmap::IndexSet;
 use std::alloc::{AllocError, Global};
 use std::marker::Model;
 
-/// The number of a forest: its position in its forest pool. The order of numbers is that in which their forests came into the forest pool.
+/// The number of a forest: its position in its forest pool. The order of numbers is that in which
+/// their forests came into the forest pool.
 #[derive(Clone, Copy, Debug, PartialEq, Eq, PartialOrd, Ord, Hash)]
 pub struct ForestId(pub usize);
 
-/// The trees of a forest, in tree order. Two are equal where they have the same numbers, wherever these stand in memory.
+/// The trees of a forest, in tree order. Two are equal where they have the same numbers, wherever
+/// these stand in memory.
 #[derive(Clone, Copy, Debug, PartialEq, Eq, Hash)]
 struct Forest<'a> {
     trees: &'a [TreeId],
 }
 
-/// Forests by number, each once. Contracts see the list of the forests, each as the list of the numbers of its trees.
+/// Forests by number, each once. Contracts see the list of the forests, each as the list of the
+/// numbers of its trees.
 ///
-/// **Order.** Numbers are given from 0 on as forests come in, and stay while the forest pool grows. They are equal exactly where the forests are; `order` compares
-/// the forests themselves. The trees of a forest are in tree order, each as often as it stands in the forest.
+/// **Order.** Numbers are given from 0 on as forests come in, and stay while the forest pool grows.
+/// They are equal exactly where the forests are; `order` compares the forests themselves. The trees
+/// of a forest are in tree order, each as often as it stands in the forest.
 ///
-/// **Invariant.** No forest stands at two places. That the forests are those of one pool is a condition of each call that takes both.
+/// **Invariant.** No forest stands at two places. That the forests are those of one pool is a
+/// condition of each call that takes both.
 ///
-/// **Example.** The forest of the trees 2 and 1 of the example of `Pool` is the list 1, 2; its join with itself is 1, 1, 2, 2.
+/// **Example.** The forest of the trees 2 and 1 of the example of `Pool` is the list 1, 2; its join
+/// with itself is 1, 1, 2, 2.
 #[derive(Drop)]
 pub struct ForestPool<'a> {
     arena: &'a Bump,
@@ -48,7 +54,8 @@ impl<'a> Model for ForestPool<'a> {
 
 /// The place of the forest with these trees.
 fn forest_position(forests: &IndexSet<Forest<'_>>, trees: &[TreeId]) -> Option<usize>
-    ensures { MatchOption result (LacksForest (forests_of forests.now.keys) (numbers trees.now)) (λ i. slice_get (forests_of forests.now.keys) i ≡ Some (numbers trees.now)) }
+    ensures { MatchOption result (LacksForest (forests_of forests.now.keys) (numbers trees.now))
+        (λ i. slice_get (forests_of forests.now.keys) i ≡ Some (numbers trees.now)) }
 {
     forests.get_index_of(&Forest { trees })
 }
@@ -60,7 +67,8 @@ fn push_forest<'a>(
     trees: &[TreeId],
 ) -> Result<(), AllocError>
     requires { LacksForest (forests_of forests.old.keys) (numbers trees.now) }
-    ensures forests { OnOk result (forests_of forests.new.keys ≡ forests_of forests.old.keys ++ numbers trees.now ∷ []) }
+    ensures forests { OnOk result (forests_of forests.new.keys ≡ forests_of forests.old.keys
+        ++ numbers trees.now ∷ []) }
     ensures unchanged { OnErr result (forests.new.keys ≡ forests.old.keys) }
 {
     let trees = &*arena.try_alloc_slice_copy(trees)?;
@@ -96,7 +104,8 @@ impl<'a> ForestPool<'a> {
         self.forests.len()
     }
 
-    /// The trees of a forest, in tree order. Takes no memory. The list stays readable as long as the arena, also while the forest pool grows.
+    /// The trees of a forest, in tree order. Takes no memory. The list stays readable as long as
+    /// the arena, also while the forest pool grows.
     pub fn trees(&self, f: ForestId) -> &'a [TreeId]
         requires { f.0 < length self.now }
         ensures { numbers result.now ≡ forest_at self.now f.0 }
@@ -105,8 +114,9 @@ impl<'a> ForestPool<'a> {
         forest.trees
     }
 
-    /// The number of the forest of these trees, in any order, each as often as it is given: that of the list in tree order, which is added where it is not there
-    /// yet. Fails only for want of memory, and the forest pool is then as it was.
+    /// The number of the forest of these trees, in any order, each as often as it is given: that of
+    /// the list in tree order, which is added where it is not there yet. Fails only for want of
+    /// memory, and the forest pool is then as it was.
     pub fn intern(
         &mut self,
         alloc: Global,
@@ -116,7 +126,8 @@ impl<'a> ForestPool<'a> {
         requires fits { Fits self.old pool.now }
         requires known { AreKnown pool.now (numbers ids.now) }
         ensures known { IfOk result (λ f. f.0 < length self.new) }
-        ensures forest { IfOk result (λ f. IsSorting pool.now (numbers ids.now) (forest_at self.new f.0)) }
+        ensures forest { IfOk result (λ f. IsSorting pool.now (numbers ids.now)
+            (forest_at self.new f.0)) }
         ensures grown { IfOk result (λ f. IsGrownWith self.old self.new (forest_at self.new f.0)) }
         ensures unchanged { OnErr result (self.new ≡ self.old) }
         ensures fits { Fits self.new pool.now }
@@ -139,8 +150,8 @@ impl<'a> ForestPool<'a> {
         Ok(ForestId(id))
     }
 
-    /// The number of the forest that has the trees of two forests, each as often as in both together. Fails only for want of memory, and the forest pool is then
-    /// as it was.
+    /// The number of the forest that has the trees of two forests, each as often as in both
+    /// together. Fails only for want of memory, and the forest pool is then as it was.
     pub fn join(
         &mut self,
         alloc: Global,
@@ -152,7 +163,8 @@ impl<'a> ForestPool<'a> {
         requires known_f { f.0 < length self.old }
         requires known_g { g.0 < length self.old }
         ensures known { IfOk result (λ h. h.0 < length self.new) }
-        ensures forest { IfOk result (λ h. IsSorting pool.now (forest_at self.old f.0 ++ forest_at self.old g.0) (forest_at self.new h.0)) }
+        ensures forest { IfOk result (λ h. IsSorting pool.now (forest_at self.old f.0
+            ++ forest_at self.old g.0) (forest_at self.new h.0)) }
         ensures grown { IfOk result (λ h. IsGrownWith self.old self.new (forest_at self.new h.0)) }
         ensures unchanged { OnErr result (self.new ≡ self.old) }
         ensures fits { Fits self.new pool.now }

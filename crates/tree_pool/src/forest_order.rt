@@ -25,8 +25,9 @@ fn compared(pool: &Pool<'_>, xs: &[TreeId], ys: &[TreeId]) -> Ordering
 }
 
 impl<'a> ForestPool<'a> {
-    /// The order of two forests, by their numbers: the number of trees, then the lists of trees, lexicographically in tree order.
-    /// A number that is that of no forest comes first, so that a closure over this call has no condition. Takes no memory.
+    /// The order of two forests, by their numbers: the number of trees, then the lists of trees,
+    /// lexicographically in tree order. A number that is that of no forest comes first, so that a
+    /// closure over this call has no condition. Takes no memory.
     pub fn order(&self, pool: &Pool<'_>, f: ForestId, g: ForestId) -> Ordering
         ensures { result ≡ forest_id_order pool.now.trees self.now f.0 g.0 }
     {

@@ -1,4 +1,5 @@
-//! Trees and forests by number, each once.
+//! Trees and forests by number, each once. Arena and hashed sets are this crate's own: what stands
+//! above sees a list of canonical trees.
 #![tactic(auto)]
 
 mod degree;

@@ -24,14 +24,16 @@ fn push_edge(edges: &mut Vec<EdgeTo>, e: EdgeTo) -> Result<(), AllocError>
 }
 
 impl<'a> Pool<'a> {
-    /// The number of the product of two trees: their roots joined, with the sum of their decorations. Fails only for want of memory, and the pool is then as it
-    /// was.
+    /// The number of the product of two trees: their roots joined, with the sum of their
+    /// decorations. Fails only for want of memory, and the pool is then as it was.
     pub fn product(&mut self, alloc: Global, a: TreeId, b: TreeId) -> Result<TreeId, PoolError>
         requires known_a { a.0 < length self.old.trees }
         requires known_b { b.0 < length self.old.trees }
         requires small { IsSmall (joined (tree_at self.old a.0) (tree_at self.old b.0)) }
-        ensures tree { IfOk result (λ id. Holds self.new id.0 (canon (joined (tree_at self.old a.0) (tree_at self.old b.0)))) }
-        ensures grown { OnOk result (IsGrownBy self.old self.new (canon (joined (tree_at self.old a.0) (tree_at self.old b.0)))) }
+        ensures tree { IfOk result (λ id. Holds self.new id.0
+            (canon (joined (tree_at self.old a.0) (tree_at self.old b.0)))) }
+        ensures grown { OnOk result (IsGrownBy self.old self.new
+            (canon (joined (tree_at self.old a.0) (tree_at self.old b.0)))) }
         ensures unchanged { OnErr result (self.new ≡ self.old) }
     {
         let (n, xs) = self.node(a);
@@ -40,8 +42,8 @@ impl<'a> Pool<'a> {
         self.intern_node(alloc, n.plus(&m), edges.as_slice())
     }
 
-    /// The number of the tree with one edge at its root, of this type and derivative decoration, and the tree `t` above it. Fails only for want of memory, and
-    /// the pool is then as it was.
+    /// The number of the tree with one edge at its root, of this type and derivative decoration,
+    /// and the tree `t` above it. Fails only for want of memory, and the pool is then as it was.
     pub fn plant(
         &mut self,
         alloc: Global,
@@ -52,8 +54,10 @@ impl<'a> Pool<'a> {
         requires known { t.0 < length self.old.trees }
         requires edge { IsEdge self.old.types kind.0 p.entries (tree_at self.old t.0) }
         requires small { IsSmall (planted_by kind.0 p.entries (tree_at self.old t.0)) }
-        ensures tree { IfOk result (λ id. Holds self.new id.0 (planted_by kind.0 p.entries (tree_at self.old t.0))) }
-        ensures grown { OnOk result (IsGrownBy self.old self.new (planted_by kind.0 p.entries (tree_at self.old t.0))) }
+        ensures tree { IfOk result (λ id. Holds self.new id.0 (planted_by kind.0 p.entries
+            (tree_at self.old t.0))) }
+        ensures grown { OnOk result (IsGrownBy self.old self.new (planted_by kind.0 p.entries
+            (tree_at self.old t.0))) }
         ensures unchanged { OnErr result (self.new ≡ self.old) }
     {
         self.laws();
@@ -61,7 +65,8 @@ impl<'a> Pool<'a> {
         self.intern_node(alloc, Multi::zero(), &[edge])
     }
 
-    /// The number of the canonical form of a tree. Fails only for want of memory; the pool may then hold some of its subtrees.
+    /// The number of the canonical form of a tree. Fails only for want of memory; the pool may then
+    /// hold some of its subtrees.
     pub fn intern_tree(&mut self, alloc: Global, t: &Tree) -> Result<TreeId, PoolError>
         requires types { HasTypes self.old.types (plain t.now) }
         requires small { IsSmall (plain t.now) }

@@ -40,7 +40,8 @@ impl<'a> Pool<'a> {
     pub(crate) fn measures_over(&self, n: &Multi, edges: &[EdgeTo]) -> Measures
         requires known { AreBelow (length self.now.trees) edges.now }
         requires kept { IsKept self.now.types (tree_over self.now.trees n.now.entries edges.now) }
-        ensures { result ≡ measure self.now.types (tree_over self.now.trees n.now.entries edges.now) }
+        ensures { result ≡ measure self.now.types (tree_over self.now.trees n.now.entries
+            edges.now) }
     {
         Measures {
             degree: self.degree_over(self.types(), n, edges),

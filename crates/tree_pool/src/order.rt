@@ -9,8 +9,9 @@ use crate::pool::Pool;
 use std::cmp::Ordering;
 
 impl<'a> Pool<'a> {
-    /// Tree order of two trees, by their numbers: the number of edges, then the root's decoration, then the lists of edges, lexicographically in edge order.
-    /// A number that is that of no tree comes first, so that a closure over this call has no condition. Takes no memory.
+    /// Tree order of two trees, by their numbers: the number of edges, then the root's decoration,
+    /// then the lists of edges, lexicographically in edge order. A number that is that of no tree
+    /// comes first, so that a closure over this call has no condition. Takes no memory.
     pub fn order(&self, a: TreeId, b: TreeId) -> Ordering
         ensures { result ≡ id_order self.now.trees a.0 b.0 }
     {
@@ -54,7 +55,8 @@ impl<'a> Pool<'a> {
     pub(crate) fn edge_order(&self, x: &EdgeTo, y: &EdgeTo) -> Ordering
         requires known_x { x.now.child.0 < length self.now.trees }
         requires known_y { y.now.child.0 < length self.now.trees }
-        ensures { result ≡ edge_order_of (edge_over self.now.trees x.now) (edge_over self.now.trees y.now) }
+        ensures { result ≡ edge_order_of (edge_over self.now.trees x.now)
+            (edge_over self.now.trees y.now) }
     {
         match x.kind.0.cmp(&y.kind.0) {
             Ordering::Equal => {}

@@ -12,7 +12,8 @@ use std::alloc::{AllocError, Global};
 
 /// Puts an edge behind others.
 fn push_edge(edges: &mut Vec<Edge>, kind: TypeId, p: Multi, child: Tree) -> Result<(), AllocError>
-    ensures { OnOk result (map labelled edges.new.items ≡ map labelled edges.old.items ++ labelled_by kind p (plain child) ∷ []) }
+    ensures { OnOk result (map labelled edges.new.items ≡ map labelled edges.old.items
+        ++ labelled_by kind p (plain child) ∷ []) }
 {
     edges.push(Edge { kind, p, child })?;
     Ok(())

@@ -14,7 +14,8 @@ use std::alloc::{AllocError, Global};
 fn place(pool: &Pool<'_>, edges: &[EdgeTo], e: &EdgeTo) -> usize
     requires known { AreBelow (length pool.now.trees) edges.now }
     requires known_edge { e.now.child.0 < length pool.now.trees }
-    ensures { result ≡ prefix_len (λ f. is_gt (edge_order_of (edge_over pool.now.trees e.now) f)) (map (edge_over pool.now.trees) edges.now) }
+    ensures { result ≡ prefix_len (λ f. is_gt (edge_order_of (edge_over pool.now.trees e.now) f))
+        (map (edge_over pool.now.trees) edges.now) }
 {
     for i in 0..edges.len() {
         if !pool.edge_order(e, &edges[i]).is_gt() {
@@ -28,7 +29,10 @@ fn place(pool: &Pool<'_>, edges: &[EdgeTo], e: &EdgeTo) -> usize
 fn insert_edge(pool: &Pool<'_>, edges: &mut Vec<EdgeTo>, e: EdgeTo) -> Result<(), AllocError>
     requires known { AreBelow (length pool.now.trees) edges.old.items }
     requires known_edge { e.child.0 < length pool.now.trees }
-    ensures tree { OnOk result ((n : List ℕ) → tree_over pool.now.trees n edges.new.items ≡ with_edge (planted_of (edge_over pool.now.trees e)) (tree_over pool.now.trees n edges.old.items)) }
+    ensures tree { OnOk result ((n : List ℕ) →
+        tree_over pool.now.trees n edges.new.items
+        ≡ with_edge (planted_of (edge_over pool.now.trees e))
+        (tree_over pool.now.trees n edges.old.items)) }
     ensures known { OnOk result (AreBelow (length pool.now.trees) edges.new.items) }
 {
     let at = place(pool, edges.as_slice(), &e);
@@ -43,7 +47,8 @@ pub fn sorted_edges(
     edges: &[EdgeTo],
 ) -> Result<Vec<EdgeTo>, AllocError>
     requires known { AreBelow (length pool.now.trees) edges.now }
-    ensures tree { IfOk result (λ sorted. (n : List ℕ) → tree_over pool.now.trees n sorted.items ≡ canon (tree_over pool.now.trees n edges.now)) }
+    ensures tree { IfOk result (λ sorted. (n : List ℕ) →
+        tree_over pool.now.trees n sorted.items ≡ canon (tree_over pool.now.trees n edges.now)) }
     ensures known { IfOk result (λ sorted. AreBelow (length pool.now.trees) sorted.items) }
 {
     pool.laws();

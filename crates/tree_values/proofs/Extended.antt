@@ -1,5 +1,5 @@
 -- What is held after a constant was asked: what was held, and constants over it.
-use Rattle.std.proofs.Common.{◌≡◌, ◌⊎◌, inl, inr, Bool, true, false, cond, List, [], ◌∷◌, refl, sym, ap, ◌∙◌, subst, Option, Some, None}
+use Rattle.std.proofs.Common.{◌≡◌, ◌⊎◌, inl, inr, true, false, cond, List, [], ◌∷◌, refl, sym, ap, ◌∙◌, subst, Option, Some, None}
 use Rattle.std.specs.Ordering.{is_eq}
 use Rattle.ordered_lists.specs.Members.{IsIn}
 use Rattle.degree_numbers.specs.declared.types.Types.{Types}

@@ -1,12 +1,12 @@
 -- The first quantity that is out of range.
-use Rattle.std.proofs.Common.{◌≡◌, ◌⊎◌, inl, inr, List, [], ◌∷◌, ◌++◌, Option}
+use Rattle.std.proofs.Common.{inl, inr, List, [], ◌∷◌, ◌++◌, Option}
 use Rattle.equations.specs.declared.Equation.{Equation}
 use Rattle.equations.specs.declared.Unknown.{Unknown}
 use Rattle.plain_trees.specs.Plain.{Plain}
 use Rattle.antipode_laws.specs.Weighed.{Weighed}
 use Rattle.tree_values.specs.declared.quantity.Quantity.{Quantity}
-use Rattle.tree_values.specs.declared.quantity.Quantity.TheVariants.{Extraction, Constant, Differential, Denominator}
-use Rattle.tree_values.specs.Quantities.{quantities_at, quantities}
+use Rattle.tree_values.specs.declared.quantity.Quantity.TheVariants.{Extraction, Constant}
+use Rattle.tree_values.specs.Quantities.{quantities_at}
 use Rattle.tree_values.specs.Ranges.{IsDifferentialPast, IsPast, IsFirstOf, AreInRange, IsFirstPast, IsInRange}
 
 module _ (past : Quantity → Type 0) where

@@ -1,15 +1,12 @@
 -- What is out of range stays so, and values stay the same, where constants are held besides.
-use Rattle.std.proofs.Common.{◌≡◌, ◌<◌, ◌≤◌, ◌⊎◌, inl, inr, true, false, cond, pos, List, [], ◌∷◌, length, refl, sym, ap, ◌∙◌, subst, arith, Option, Some, None}
+use Rattle.std.proofs.Common.{◌≡◌, ◌<◌, ◌⊎◌, inl, inr, true, false, cond, pos, List, [], ◌∷◌, refl, sym, ap, ◌∙◌, subst, arith, Option, Some, None}
 use Rattle.std.specs.Ordering.{is_eq}
 use Rattle.exact_sums.specs.Saturating.{overflow}
-use Rattle.degree_numbers.specs.declared.types.Types.{Types}
 use Rattle.equations.specs.declared.Equation.{Equation}
 use Rattle.plain_trees.specs.Plain.{Plain, tree_order}
 use Rattle.plain_trees.specs.Degree.{HasTypes}
-use Rattle.plain_trees.specs.Coproducts.{extraction_terms}
 use Rattle.symbol_polys.specs.declared.Poly.{Poly}
 use Rattle.antipode_laws.specs.Weighed.{Weighed}
-use Rattle.antipode_laws.specs.Antipode.{are_in_range}
 use Rattle.antipode_laws.specs.Constants.{expected, IsConstants}
 use Rattle.antipode_laws.specs.Sameness.{AreSameValues, IsSameHeld, IsHeldValue}
 use Rattle.antipode_laws.proofs.SameValues.{same_solutions}

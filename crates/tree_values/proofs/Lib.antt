@@ -1,3 +1,4 @@
+pub mod ClosedLists
 pub mod Extended
 pub mod Firsts
 pub mod HeldMore

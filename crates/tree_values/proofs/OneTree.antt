@@ -1,5 +1,5 @@
 -- The values of one tree, from its constant and its differentials.
-use Rattle.std.proofs.Common.{◌≡◌, ◌<◌, ◌≤◌, ◌⊎◌, ℕ, ℤ, inl, inr, true, false, unsigned_abs, List, [], ◌∷◌, length, refl, sym, ap, ◌∙◌, subst, arith, Option, None}
+use Rattle.std.proofs.Common.{◌≡◌, ◌<◌, ℕ, inl, inr, true, false, unsigned_abs, List, [], ◌∷◌, length, refl, sym, ap, ◌∙◌, subst, arith, Option}
 use Rattle.exact_sums.specs.Saturating.{overflow}
 use Rattle.degree_numbers.specs.declared.types.Types.{Types}
 use Rattle.std.specs.List.{All}
@@ -26,7 +26,6 @@ use Rattle.twisted_antipode.specs.declared.AntipodeError.TheVariants as antipode
 use Rattle.twisted_antipode.specs.declared.Quantity.TheVariants as parts
 use Rattle.twisted_antipode.proofs.Arithmetic.{mass_is}
 use Rattle.twisted_antipode.proofs.Pooled.{kept_at}
-use Rattle.tree_values.specs.declared.quantity.Quantity.{Quantity}
 use Rattle.tree_values.specs.declared.quantity.Quantity.TheVariants.{Extraction, Constant}
 use Rattle.tree_values.specs.declared.error.ValuesError.{ValuesError}
 use Rattle.tree_values.specs.declared.error.ValuesError.TheVariants.{TooLarge, Memory}

@@ -1,5 +1,5 @@
 -- A constant whose mass is in range has its coefficients in range.
-use Rattle.std.proofs.Common.{◌≡◌, ◌<◌, ◌≤◌, Bool, true, false, cond, refl, sym, ap, ◌∙◌, subst, arith, Option, None}
+use Rattle.std.proofs.Common.{◌≡◌, ◌≤◌, true, false, cond, refl, sym, ap, ◌∙◌, subst, arith, Option, None}
 use Rattle.exact_sums.specs.Saturating.{overflow}
 use Rattle.degree_numbers.specs.declared.types.Types.{Types}
 use Rattle.plain_trees.specs.Plain.{Plain}

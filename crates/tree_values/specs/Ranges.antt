@@ -11,7 +11,7 @@
 --   IsInRange eq held c t == no quantity of the tree t is
 --   IsFirstRefused eq held c ts t q == t is the first of the trees ts with a quantity that is out
 --       of range, and q is its first one
-use Rattle.std.specs.Prelude.{◌≡◌, ◌<◌, ◌≤◌, ◌⊎◌, ℕ, false, List, [], ◌∷◌, Option, None}
+use Rattle.std.specs.Prelude.{◌≡◌, ◌<◌, ◌≤◌, ◌⊎◌, false, List, [], ◌∷◌, Option, None}
 use Rattle.std.specs.List.{AllByRecursion}
 use Rattle.exact_sums.specs.Saturating.{overflow}
 use Rattle.plain_trees.specs.Plain.{Plain}

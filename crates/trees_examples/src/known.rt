@@ -1,5 +1,5 @@
 // Equations that people know.
-use crate::runs::{file_of, run_on};
+use crate::runs::{file_of, trees_of};
 use std::test::Fail;
 
 // Scaling, degree of the noise, regularity and right side, where the kernel has degree 2; and the tree list.
@@ -39,7 +39,7 @@ const LISTS: [(&str, &str, &str, &str, &str); 5] = [
 fn tree_lists(rt: HostRuntime) -> Result<(), Fail> {
     for (scaling, noise, regularity, right, list) in LISTS {
         let file = file_of(rt.alloc(), scaling, noise, "2", regularity, right)?;
-        let run = run_on(rt.alloc(), "trees", file.as_bytes())?;
+        let run = trees_of(rt.alloc(), file.as_bytes())?;
         assert_eq!(rt; run.err.as_slice(), b"".as_slice(), "{right}");
         assert_eq!(rt; run.out.as_slice(), list.as_bytes(), "{right}");
         assert_eq!(rt; run.code, 0);
@@ -51,7 +51,7 @@ fn tree_lists(rt: HostRuntime) -> Result<(), Fail> {
 #[test]
 fn phi4_in_three_dimensions(rt: HostRuntime) -> Result<(), Fail> {
     let file = file_of(rt.alloc(), "[2, 1, 1, 1]", "-5/2-k", "2", "-3/4", "-u^3+xi")?;
-    let run = run_on(rt.alloc(), "trees", file.as_bytes())?;
+    let run = trees_of(rt.alloc(), file.as_bytes())?;
     let begins = b"trees 43\n1 -5/2-k [xi]\n2 -3/2-3*k [u[xi]*u[xi]*u[xi]]\n".as_slice();
     assert!(rt; run.out.as_slice().starts_with(begins));
     assert_eq!(rt;

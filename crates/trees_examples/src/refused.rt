@@ -1,5 +1,5 @@
 // Files that are refused after their normal rule was found, and what is just not refused.
-use crate::runs::{file_of, run_on};
+use crate::runs::{check_of, file_of, trees_of};
 use std::test::Fail;
 
 // Scaling, degrees of the noise and of the kernel, regularity and right side; and the refusal.
@@ -58,10 +58,10 @@ const REFUSED: [(&str, &str, &str, &str, &str, &str); 6] = [
 fn files_that_are_refused(rt: HostRuntime) -> Result<(), Fail> {
     for (scaling, noise, kernel, regularity, right, line) in REFUSED {
         let file = file_of(rt.alloc(), scaling, noise, kernel, regularity, right)?;
-        let run = run_on(rt.alloc(), "trees", file.as_bytes())?;
+        let run = trees_of(rt.alloc(), file.as_bytes())?;
         assert_eq!(rt; run.err.as_slice(), line.as_bytes(), "{noise} {right}");
         assert_eq!(rt; run.out.len(), 0);
-        let checked = run_on(rt.alloc(), "check", file.as_bytes())?;
+        let checked = check_of(rt.alloc(), file.as_bytes())?;
         assert_eq!(rt; checked.code, 0);
     }
     Ok(())
@@ -73,12 +73,12 @@ const ROUGH: &[u8] =
 
 #[test]
 fn too_many_trees_at_stage_1(rt: HostRuntime) -> Result<(), Fail> {
-    let run = run_on(rt.alloc(), "trees", ROUGH)?;
+    let run = trees_of(rt.alloc(), ROUGH)?;
     assert_eq!(rt;
         run.err.as_slice(),
         b"refused 7 TooManyTrees 1\n".as_slice()
     );
-    let checked = run_on(rt.alloc(), "check", ROUGH)?;
+    let checked = check_of(rt.alloc(), ROUGH)?;
     assert_eq!(rt; checked.code, 0);
     Ok(())
 }
@@ -88,7 +88,7 @@ fn too_many_trees_at_stage_1(rt: HostRuntime) -> Result<(), Fail> {
 fn files_that_are_just_not_refused(rt: HostRuntime) -> Result<(), Fail> {
     for noise in ["-12/13+k", "-23/25-k"] {
         let file = file_of(rt.alloc(), "[1]", noise, "1", "0", "u*xi")?;
-        let run = run_on(rt.alloc(), "trees", file.as_bytes())?;
+        let run = trees_of(rt.alloc(), file.as_bytes())?;
         assert!(rt;
             run.out.as_slice().starts_with(b"trees 12\n".as_slice()),
             "{noise}"

@@ -44,6 +44,17 @@ pub value_same : (w u : Weighed) (v : Value) → HaveSameCoefficients w.terms u.
 value_same w u (Sum p) same mass h = record { coefficients = λ m. h.coefficients m ∙ same m; mass = h.mass ∙ ap pos mass }
 value_same w u TooLarge same mass h = omega (arith, mass, h)
 
+-- a sum with nothing
+pub with_nothing : (w u : Weighed) (v : Value) → w.mass ≤ overflow → u.mass ≡ 0 → HaveSameCoefficients u.terms [] → IsValueOf w v → IsValueOf (sum_of w u) v
+with_nothing w u v most none empty h =
+    let total : w.mass ≡ saturating_plus w.mass u.mass = omega (arith, most, none) in
+    value_same w (sum_of w u) v (λ m. let zero = empty m in let sums = coefficient_of-append m w.terms u.terms in omega (arith, ints, zero, sums)) total h
+
+pub nothing_with : (w u : Weighed) (v : Value) → u.mass ≤ overflow → w.mass ≡ 0 → HaveSameCoefficients w.terms [] → IsValueOf u v → IsValueOf (sum_of w u) v
+nothing_with w u v most none empty h =
+    let total : u.mass ≡ saturating_plus w.mass u.mass = omega (arith, most, none) in
+    value_same u (sum_of w u) v (λ m. let zero = empty m in let sums = coefficient_of-append m w.terms u.terms in omega (arith, ints, zero, sums)) total h
+
 -- forests
 forest_mass-cons : (m : ℕ) (ms : List ℕ) → saturating_product (m ∷ ms) ≡ saturating_times m (saturating_product ms)
 forest_mass-cons m ms =

@@ -4,6 +4,7 @@ use Rattle.std.specs.List.{AllByRecursion}
 use Rattle.std.proofs.lemmas.Grind.{common_steps}
 use Rattle.std.proofs.lemmas.List.{map-append}
 use Rattle.exact_sums.specs.Saturating.{overflow, saturated, saturating_plus, saturating_times, saturating_sum}
+use Rattle.exact_sums.proofs.SaturatingLaws.{saturating_sum_is}
 use Rattle.degree_numbers.specs.declared.types.Types.{Types}
 use Rattle.plain_trees.specs.Plain.{Plain}
 use Rattle.symbol_polys.specs.declared.poly.Poly.{Poly}
@@ -62,6 +63,12 @@ module _ (reading : Reading) (ty : Types) where
       (ap saturating_sum (map-append (λ (x : Plain × ℕ). if has_terms (Q x.0) then saturated x.1 else 0) qs ((q, n) ∷ []))
       ∙ sums_of_both (map (λ (x : Plain × ℕ). if has_terms (Q x.0) then saturated x.1 else 0) qs) ((if has_terms (Q q) then saturated n else 0) ∷ [])
       ∙ ap (saturating_plus (quotient_mass Q qs)) (counted q n))
+
+pub run_within : (reading : Reading) (ty : Types) (qs : List (Plain × ℕ)) → (run_value reading ty qs).mass ≤ overflow
+run_within reading ty qs =
+    let Q = quotient_terms reading ty in
+    let is = saturating_sum_is (map (λ (x : Plain × ℕ). if has_terms (Q x.0) then saturated x.1 else 0) qs) in
+    omega (arith, is)
 
 abbrev pub no_term : ExtractTerm
 no_term = record { coefficient = pos 0; forest = record { 0 = 0 }; quotient = record { 0 = 0 } }

@@ -64,8 +64,9 @@ impl Constants {
     {
         self.entries.get(&id).is_some()
     }
+
     /// The polynomial that is held for a tree. Takes no memory.
-    pub(crate) fn get(&self, id: TreeId) -> Option<&Poly>
+    pub fn get(&self, id: TreeId) -> Option<&Poly>
         ensures { MatchOption result (first_held self.now id.0 ≡ None)
             (λ p. IsPoly p.now × (first_held self.now id.0 ≡ Some (weighed_of p.now))) }
     {

@@ -177,7 +177,7 @@ fn with_run<'a>(
         return Ok(total);
     }
     let forest = forest_value(alloc, reading, tables, memo, id, trees, work)?;
-    with_product(alloc, &total, &quotients, &forest)
+    with_product(alloc, total, &quotients, &forest)
 }
 
 /// The product of the values of the trees of a forest, which are smaller than the tree `id`.

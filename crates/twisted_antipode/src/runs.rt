@@ -3,6 +3,7 @@ ghost use Rattle.std.specs.Prelude.{◌≤◌, ◌<◌, ◌≡◌, ◌↔◌, �
 ghost use Rattle.std.specs.List.{AllByRecursion};
 ghost use Rattle.tree_pool.specs.Content.{tree_at};
 ghost use Rattle.tree_pool.specs.Forests.{numbers};
+ghost use Rattle.exact_sums.specs.Saturating.{overflow};
 ghost use Rattle.antipode_laws.specs.Weighed.{Weighed};
 ghost use Rattle.twisted_antipode.specs.Values.{IsValueOf, IsKept, sum_of, product_of, negative_of};
 ghost use Rattle.twisted_antipode.specs.Quotients.{quotient_value};
@@ -41,20 +42,20 @@ fn with_quotient(
     alloc: Global,
     reading: Reading,
     pool: &Pool<'_>,
-    total: &Value,
+    total: Value,
     term: &ExtractTerm,
 ) -> Result<Value, AntipodeError>
-    requires total { IsKept total.now }
+    requires total { IsKept total }
     requires term { IsRunTerm pool.now term.now }
     ensures kept { IfOk result IsKept }
-    ensures value { IfOk result (λ v. (w : Weighed) → IsValueOf w total.now →
+    ensures value { IfOk result (λ v. (w : Weighed) → w.mass ≤ overflow → IsValueOf w total →
         IsValueOf (sum_of w (multiple_of (unsigned_abs term.now.coefficient)
         (quotient_value reading pool.now.types (tree_at pool.now term.now.quotient.0)))) v) }
     ensures memory { IsOkUnless result AntipodeError.Memory }
 {
     let one = quotient(alloc, reading, pool, term.quotient)?;
     let all = multiple(alloc, &one, term.coefficient)?;
-    Ok(sum(alloc, total, &all)?)
+    Ok(sum(alloc, total, all)?)
 }
 
 /// The sum of the quotients of terms with one forest, each times its coefficient.
@@ -72,7 +73,7 @@ pub(crate) fn quotients(
 {
     let mut total = nothing(alloc)?;
     for term in run {
-        total = with_quotient(alloc, reading, pool, &total, term)?;
+        total = with_quotient(alloc, reading, pool, total, term)?;
     }
     Ok(total)
 }
@@ -80,22 +81,22 @@ pub(crate) fn quotients(
 /// A sum with minus the product of the quotients and the forest of a run.
 pub(crate) fn with_product(
     alloc: Global,
-    total: &Value,
+    total: Value,
     quotients: &Value,
     forest: &Value,
 ) -> Result<Value, AntipodeError>
-    requires total { IsKept total.now }
+    requires total { IsKept total }
     requires quotients { IsKept quotients.now }
     requires forest { IsKept forest.now }
     ensures kept { IfOk result IsKept }
-    ensures value { IfOk result (λ v. (w q f : Weighed) → IsValueOf w total.now →
+    ensures value { IfOk result (λ v. (w q f : Weighed) → w.mass ≤ overflow → IsValueOf w total →
         IsValueOf q quotients.now → IsValueOf f forest.now →
         IsValueOf (sum_of w (negative_of (product_of f q))) v) }
     ensures memory { IsOkUnless result AntipodeError.Memory }
 {
     let all = product(alloc, forest, quotients)?;
     let minus = negative(alloc, &all)?;
-    Ok(sum(alloc, total, &minus)?)
+    Ok(sum(alloc, total, minus)?)
 }
 
 /// How many terms from the first on have its forest.

@@ -28,8 +28,8 @@ pub(crate) fn unit(alloc: Global) -> Result<Value, PolyError>
     Ok(Value::Sum(one(alloc)?))
 }
 
-/// The sum of two values.
-pub(crate) fn sum(alloc: Global, a: &Value, b: &Value) -> Result<Value, PolyError>
+/// The sum of two values, as a new one.
+fn added(alloc: Global, a: &Value, b: &Value) -> Result<Value, PolyError>
     requires a { IsKept a.now }
     requires b { IsKept b.now }
     ensures kept { IfOk result IsKept }
@@ -45,6 +45,24 @@ pub(crate) fn sum(alloc: Global, a: &Value, b: &Value) -> Result<Value, PolyErro
         },
         _ => Ok(Value::TooLarge),
     }
+}
+
+/// The sum of two values. Where one of them is 0 the other is handed back as it is.
+pub(crate) fn sum(alloc: Global, a: Value, b: Value) -> Result<Value, PolyError>
+    requires a { IsKept a }
+    requires b { IsKept b }
+    ensures kept { IfOk result IsKept }
+    ensures value { IfOk result (λ v. (w u : Weighed) → w.mass ≤ overflow → u.mass ≤ overflow →
+        IsValueOf w a → IsValueOf u b → IsValueOf (sum_of w u) v) }
+    ensures memory { IsOkUnless result PolyError.Memory }
+{
+    if is_nothing(&b) {
+        return Ok(a);
+    }
+    if is_nothing(&a) {
+        return Ok(b);
+    }
+    added(alloc, &a, &b)
 }
 
 /// The product of a polynomial and a value whose mass is out of range.

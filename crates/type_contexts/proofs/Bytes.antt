@@ -28,7 +28,8 @@ lacks_join c d (w ∷ []) other h = h.0
 lacks_join c d (w ∷ v ∷ ws) other h = lacks-append c w (d ∷ join_with_byte d (v ∷ ws)) h.0 (other, lacks_join c d (v ∷ ws) other h.1)
 
 -- texts that are joined by a byte that they lack are found again
-pub split_join : (c : ℕ) (w : List ℕ) (ws : List (List ℕ)) → (c == c) ≡ true → Lacks c w → AllByRecursion (Lacks c) ws → slice_split (λ b. b == c) (join_with_byte c (w ∷ ws)) ≡ w ∷ ws
+pub split_join : (c : ℕ) (w : List ℕ) (ws : List (List ℕ)) → (c == c) ≡ true → Lacks c w →
+    AllByRecursion (Lacks c) ws → slice_split (λ b. b == c) (join_with_byte c (w ∷ ws)) ≡ w ∷ ws
 split_join c w [] same h hs = slice_split_none (λ b. b == c) w (All-from_recursion (λ x. (x == c) ≡ false) w h)
 split_join c w (v ∷ ws) same h hs =
     slice_split_at (λ b. b == c) w c (join_with_byte c (v ∷ ws)) (All-from_recursion (λ x. (x == c) ≡ false) w h) same ∙ ap (λ ps. w ∷ ps) (split_join c v ws same hs.0 hs.1)

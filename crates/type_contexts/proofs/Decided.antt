@@ -40,7 +40,9 @@ zero_true s h = grind (arith, nat_tests)
 zero_tested : (s : ℕ) → s ≡ 0 → (s == 0) ≡ true
 zero_tested s h = grind (arith, nat_tests)
 
-pub scaling_true : (dims : ℕ) (s : List ℕ) → length s ≡ 5 → 0 < dims → dims ≤ 5 → list_all (λ x. nat_lt 0 x && nat_le x 10) (take dims s) ≡ true → list_all (λ x. x == 0) (drop dims s) ≡ true → IsScaling dims s
+pub scaling_true : (dims : ℕ) (s : List ℕ) → length s ≡ 5 → 0 < dims → dims ≤ 5 →
+    list_all (λ x. nat_lt 0 x && nat_le x 10) (take dims s) ≡ true →
+    list_all (λ x. x == 0) (drop dims s) ≡ true → IsScaling dims s
 scaling_true dims s five some few entries rest = record {
   some = some;
   most = few;
@@ -85,7 +87,9 @@ numerator negative size den b above fits common = (
   λ n d low. subst (λ x. size / (den / x) ≡ n) (sym (common_is_lowest negative size den b n d above fits common low)) (lowest_whole size den n d above low).1,
 )
 
-pub writable : (den m : ℕ) (z : ℤ) → 0 < den → den ≤ 1000000 → unsigned_abs z ≤ 20 * den → ((n d : ℕ) → IsLowest (unsigned_abs z) den n d → m ≡ n) → IsTrue (nat_le m 1000000) ↔ IsWritable den z
+pub writable : (den m : ℕ) (z : ℤ) → 0 < den → den ≤ 1000000 → unsigned_abs z ≤ 20 * den →
+    ((n d : ℕ) → IsLowest (unsigned_abs z) den n d → m ≡ n) →
+    IsTrue (nat_le m 1000000) ↔ IsWritable den z
 writable den m z above fits small is = (
   λ t. let low = lowest_exists (unsigned_abs z) den above in
       let n_is = is low.0 low.1 low.2 in
@@ -128,12 +132,17 @@ pub whole_rest : {A : Type 0} (xs : List A) (i : ℕ) → take (length xs - i) (
 whole_rest xs i = ap (λ n. take n (drop i xs)) (sym (length-drop i xs)) ∙ take-length (drop i xs)
 
 -- names that differ, with one more in front
-pub different_more : (names : List (List ℕ)) (i : ℕ) → begins_new (take (length names - i) (drop i names)) ≡ true → AreDifferent names ↔ AreDifferent (drop i names) → AreDifferent names ↔ AreDifferent (drop (i + 1) names)
+pub different_more : (names : List (List ℕ)) (i : ℕ) →
+    begins_new (take (length names - i) (drop i names)) ≡ true →
+    AreDifferent names ↔ AreDifferent (drop i names) →
+    AreDifferent names ↔ AreDifferent (drop (i + 1) names)
 different_more names i test told =
     let rest = different_rest (drop i names) (ap begins_new (sym (whole_rest names i)) ∙ test) in
     rw add-one (subst (λ ns. AreDifferent names ↔ AreDifferent ns) (later names i) (λ h. rest.0 (told.0 h), λ h. told.1 (rest.1 h)))
 
-pub not_different : (names : List (List ℕ)) (i : ℕ) → begins_new (take (length names - i) (drop i names)) ≡ false → AreDifferent names ↔ AreDifferent (drop i names) → AreDifferent names → ⊥
+pub not_different : (names : List (List ℕ)) (i : ℕ) →
+    begins_new (take (length names - i) (drop i names)) ≡ false →
+    AreDifferent names ↔ AreDifferent (drop i names) → AreDifferent names → ⊥
 not_different names i test told h = true≢false (sym (begins_different (drop i names) (told.0 h)) ∙ ap begins_new (sym (whole_rest names i)) ∙ test)
 
 -- what is not there
@@ -142,7 +151,8 @@ none_of None h = refl
 none_of (Some r) h = absurd (true≢false h)
 
 -- a direction among others
-pub directions_at : (past dims : ℕ) (xs : List ℕ) (i : ℕ) → i < length xs → AreDirections past dims (drop i xs) → (past < get_or xs i 0) × (get_or xs i 0 ≤ dims)
+pub directions_at : (past dims : ℕ) (xs : List ℕ) (i : ℕ) → i < length xs →
+    AreDirections past dims (drop i xs) → (past < get_or xs i 0) × (get_or xs i 0 ≤ dims)
 directions_at past dims [] i lt h = absurd (omega (arith, lt))
 directions_at past dims (x ∷ xs) zero lt h = (h.0, h.1)
 directions_at past dims (x ∷ xs) (suc i) lt h = directions_at past dims xs i (omega (arith, lt)) h

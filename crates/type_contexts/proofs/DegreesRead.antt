@@ -49,7 +49,9 @@ same_written : (v w : Written) (text : List ℕ) → written_of text ≡ Some v 
 same_written v w text h k = let e : Some v ≡ Some w = sym h ∙ k in cc
 
 -- in all multiples of the common denominator the same is read
-read_times : (c : ℕ) (d : Degree) (den : ℕ) (text : List ℕ) (w : Written) → 0 < c → 0 < den → IsFractionInRange den d.a → IsFractionInRange den d.b → IsDegreeText d den text → written_of text ≡ Some w → degree_in (c * den) w ≡ degree_times c d
+read_times : (c : ℕ) (d : Degree) (den : ℕ) (text : List ℕ) (w : Written) → 0 < c → 0 < den →
+    IsFractionInRange den d.a → IsFractionInRange den d.b → IsDegreeText d den text →
+    written_of text ≡ Some w → degree_in (c * den) w ≡ degree_times c d
 read_times c d den text w above den_above a b h is =
     let back = degree_back (degree_times c d) (c * den) text (positive c den above den_above) (range_same d.a den (times c d.a) (c * den) den_above (times_same c d.a den above) a) (range_same d.b den (times c d.b) (c * den) den_above (times_same c d.b den above) b) (text_times c d den text above den_above h) in
     ap (degree_in (c * den)) (same_written w back.0 text is back.1) ∙ back.3
@@ -58,7 +60,9 @@ abbrev signed : Fraction → ℤ
 signed f = under_sign f.negative f.num
 
 -- a number that is read in each multiple of a denominator is the fraction
-same_as_read : (z : ℤ) (den : ℕ) (f : Fraction) → 0 < den → 0 < f.den → in_units_of (f.den * den) f ≡ times f.den z → in_units_of (1 * den) f ≡ times 1 z → IsSameFraction z den (signed f) f.den
+same_as_read : (z : ℤ) (den : ℕ) (f : Fraction) → 0 < den → 0 < f.den →
+    in_units_of (f.den * den) f ≡ times f.den z → in_units_of (1 * den) f ≡ times 1 z →
+    IsSameFraction z den (signed f) f.den
 same_as_read z den f den_above above many once =
     let whole : f.den * den * f.num / f.den ≡ den * f.num = (let turned : f.den * den * f.num ≡ den * f.num * f.den = omega arith in ap (λ n. n / f.den) turned ∙ mul-div_cancel (den * f.num) above) in
     let size : den * f.num ≡ f.den * unsigned_abs z =
@@ -79,7 +83,9 @@ pub record IsSameWritten (d : Degree) (den : ℕ) (w : Written) : Type 0 where
   pub a : IsSameFraction d.a den (signed w.plain) w.plain.den
   pub b : IsSameFraction d.b den (signed w.with_k) w.with_k.den
 
-pub written_same : (d : Degree) (den : ℕ) (text : List ℕ) (w : Written) → 0 < den → IsFractionInRange den d.a → IsFractionInRange den d.b → IsDegreeText d den text → written_of text ≡ Some w → IsSameWritten d den w
+pub written_same : (d : Degree) (den : ℕ) (text : List ℕ) (w : Written) → 0 < den →
+    IsFractionInRange den d.a → IsFractionInRange den d.b → IsDegreeText d den text →
+    written_of text ≡ Some w → IsSameWritten d den w
 written_same d den text w den_above a b h is =
     let above = written_above text w is in
     let once = read_times 1 d den text w (omega arith) den_above a b h is in
@@ -109,7 +115,9 @@ read_is : (text : List ℕ) (w : Written) (d : WrittenDegree) → written_of tex
 read_is text w d is read = small d w w.large (subst (λ o. MatchOption o (◌≡◌ {A = Result WrittenDegree DegreeRefusal} (Ok d) (Err DegreeText)) (λ v. Outcome d v v.large)) is read)
 
 -- what is read of the text of a degree is the degree
-pub degree_read : (d : Degree) (den : ℕ) (text : List ℕ) (r : WrittenDegree) → 0 < den → IsFractionInRange den d.a → IsFractionInRange den d.b → IsDegreeText d den text → IsRead text (Ok r) → IsSameDegree d den r
+pub degree_read : (d : Degree) (den : ℕ) (text : List ℕ) (r : WrittenDegree) → 0 < den →
+    IsFractionInRange den d.a → IsFractionInRange den d.b → IsDegreeText d den text →
+    IsRead text (Ok r) → IsSameDegree d den r
 degree_read d den text r den_above a b h read =
     let back = degree_back d den text den_above a b h in
     let w = back.0 in
@@ -122,7 +130,10 @@ degree_read d den text r den_above a b h read =
     }
 
 -- degrees with the same text are the same number
-pub degrees_one : (d : Degree) (den : ℕ) (e : Degree) (other : ℕ) (text : List ℕ) → 0 < den → 0 < other → IsFractionInRange den d.a → IsFractionInRange den d.b → IsFractionInRange other e.a → IsFractionInRange other e.b → IsDegreeText d den text → IsDegreeText e other text → IsSameFraction d.a den e.a other × IsSameFraction d.b den e.b other
+pub degrees_one : (d : Degree) (den : ℕ) (e : Degree) (other : ℕ) (text : List ℕ) → 0 < den →
+    0 < other → IsFractionInRange den d.a → IsFractionInRange den d.b →
+    IsFractionInRange other e.a → IsFractionInRange other e.b → IsDegreeText d den text →
+    IsDegreeText e other text → IsSameFraction d.a den e.a other × IsSameFraction d.b den e.b other
 degrees_one d den e other text den_above other_above da db ea eb h k =
     let back = degree_back d den text den_above da db h in
     let w = back.0 in

@@ -29,7 +29,8 @@ unfolding or_else
 same_some a b h = ap (or_else a) h
 
 -- what stands behind an optional mark is read there, or the mark is not there
-there_or : {A : Type 0} (o : Option (List ℕ)) (there : List ℕ → A) (without a : A) → if_there o there without ≡ a → ((rest : List ℕ) × (there rest ≡ a)) ⊎ (without ≡ a)
+there_or : {A : Type 0} (o : Option (List ℕ)) (there : List ℕ → A) (without a : A) →
+    if_there o there without ≡ a → ((rest : List ℕ) × (there rest ≡ a)) ⊎ (without ≡ a)
 there_or None there without a h = inr h
 there_or (Some rest) there without a h = inl (rest, h)
 
@@ -119,7 +120,8 @@ chosen : {A : Type 0} (P : A → Type 0) (c : Bool) (a b : A) → P a → P b �
 chosen P true a b p q = p
 chosen P false a b p q = q
 
-fraction_above : (has_k : Bool) (first : Part) (second : Option Part) → 0 < first.fraction.den → IsSecondAbove second → 0 < (fraction_with has_k first second).den
+fraction_above : (has_k : Bool) (first : Part) (second : Option Part) → 0 < first.fraction.den →
+    IsSecondAbove second → 0 < (fraction_with has_k first second).den
 fraction_above has_k first None above above_second = chosen (λ f. 0 < f.den) (beq first.has_k has_k) first.fraction nothing above (omega arith)
 fraction_above has_k first (Some second) above above_second = chosen (λ f. 0 < f.den) (beq first.has_k has_k) first.fraction second.fraction above above_second
 

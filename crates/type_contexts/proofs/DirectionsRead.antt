@@ -23,7 +23,8 @@ numbers_lack : (c : ℕ) (is : List ℕ) → is_ascii_digit c ≡ false → AllB
 numbers_lack c [] other h = tt
 numbers_lack c (i ∷ is) other h = let small = h.0 in (lacks_decimal c i other (omega (arith, small)), numbers_lack c is other h.1)
 
-pub directions_lack : (c : ℕ) (is : List ℕ) → is_ascii_digit c ≡ false → (45 == c) ≡ false → (44 == c) ≡ false → AllByRecursion (λ i. i ≤ 5) is → Lacks c (directions_text is)
+pub directions_lack : (c : ℕ) (is : List ℕ) → is_ascii_digit c ≡ false → (45 == c) ≡ false →
+    (44 == c) ≡ false → AllByRecursion (λ i. i ≤ 5) is → Lacks c (directions_text is)
 directions_lack c [] digit minus comma h = (minus, tt)
 directions_lack c (i ∷ is) digit minus comma h = lacks_join c 44 (map decimal (i ∷ is)) comma (numbers_lack c (i ∷ is) digit h)
 
@@ -36,14 +37,19 @@ pub reflect_words : (ty : Types) → AreTypes ty → slice_split (λ b. b == 32)
 reflect_words ty h =
     split_join 32 (codes "reflect") (directions_text ty.reflect ∷ []) refl (refl, (refl, (refl, (refl, (refl, (refl, (refl, tt))))))) (directions_lack 32 ty.reflect refl refl refl (directions_small ty h), tt)
 
-pub text_found : {A : Type 0} (f : A → List ℕ) (ty : Types) (piece : List ℕ) (items slice : List A) (r : Option (List ℕ)) → AreTypes ty → piece ≡ reflect_text ty → map f items ≡ slice_split (λ b. b == 32) piece → slice ≡ items → r ≡ second_of (map f slice) → r ≡ Some (directions_text ty.reflect)
+pub text_found : {A : Type 0} (f : A → List ℕ) (ty : Types) (piece : List ℕ) (items slice : List A) (r : Option (List ℕ)) →
+    AreTypes ty → piece ≡ reflect_text ty → map f items ≡ slice_split (λ b. b == 32) piece →
+    slice ≡ items → r ≡ second_of (map f slice) → r ≡ Some (directions_text ty.reflect)
 text_found f ty piece items slice r h is cut same told = told ∙ ap second_of (ap (map f) same ∙ cut ∙ ap (slice_split (λ b. b == 32)) is ∙ reflect_words ty h)
 
 -- and its numbers
 pub directions_cut : (i : ℕ) (is : List ℕ) → AllByRecursion (λ n. n ≤ 5) (i ∷ is) → slice_split (λ b. b == 44) (directions_text (i ∷ is)) ≡ map decimal (i ∷ is)
 directions_cut i is h = let all = numbers_lack 44 (i ∷ is) refl h in split_join 44 (decimal i) (map decimal is) refl all.0 all.1
 
-pub numbers_found : {A : Type 0} (f : A → List ℕ) (i : ℕ) (is text : List ℕ) (items slice : List A) → AllByRecursion (λ n. n ≤ 5) (i ∷ is) → text ≡ directions_text (i ∷ is) → map f items ≡ slice_split (λ b. b == 44) text → slice ≡ items → map f slice ≡ map decimal (i ∷ is)
+pub numbers_found : {A : Type 0} (f : A → List ℕ) (i : ℕ) (is text : List ℕ) (items slice : List A) →
+    AllByRecursion (λ n. n ≤ 5) (i ∷ is) → text ≡ directions_text (i ∷ is) →
+    map f items ≡ slice_split (λ b. b == 44) text → slice ≡ items →
+    map f slice ≡ map decimal (i ∷ is)
 numbers_found f i is text items slice h e cut same =
     ap (map f) same ∙ cut ∙ ap (slice_split (λ b. b == 44)) e ∙ directions_cut i is h
 
@@ -63,7 +69,9 @@ pub minus_directions : (is : List ℕ) → AllByRecursion (λ n. n ≤ 5) is →
 minus_directions [] h e = refl
 minus_directions (i ∷ is) h e = absurd (numbers_are i is h e)
 
-pub numbers_said : {A : Type 0} (f : A → List ℕ) (is text : List ℕ) (items slice : List A) → (text ≡ codes "-" → ⊥) → AllByRecursion (λ n. n ≤ 5) is → text ≡ directions_text is → map f items ≡ slice_split (λ b. b == 44) text → slice ≡ items → map f slice ≡ map decimal is
+pub numbers_said : {A : Type 0} (f : A → List ℕ) (is text : List ℕ) (items slice : List A) →
+    (text ≡ codes "-" → ⊥) → AllByRecursion (λ n. n ≤ 5) is → text ≡ directions_text is →
+    map f items ≡ slice_split (λ b. b == 44) text → slice ≡ items → map f slice ≡ map decimal is
 numbers_said f [] text items slice other h e cut same = absurd (other e)
 numbers_said f (i ∷ is) text items slice other h e cut same = numbers_found f i is text items slice h e cut same
 

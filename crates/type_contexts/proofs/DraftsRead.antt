@@ -48,7 +48,8 @@ pub record IsEntryDraft (den : ℕ) (groups : List (List ℕ)) (e : TypeEntry) (
   pub degree : IsSameDegree e.degree den d.degree
   pub moments : d.moments ≡ e.moments
 
-pub degree_lacks : (c den : ℕ) (d : Degree) (text : List ℕ) → IsOther c → 0 < den → IsFractionInRange den d.a → IsFractionInRange den d.b → IsDegreeText d den text → Lacks c text
+pub degree_lacks : (c den : ℕ) (d : Degree) (text : List ℕ) → IsOther c → 0 < den →
+    IsFractionInRange den d.a → IsFractionInRange den d.b → IsDegreeText d den text → Lacks c text
 degree_lacks c den d text other above a b h =
     let same_a = lowest_one (unsigned_abs d.a) den a.0 a.1 h.0.num h.0.den above a.2 h.2.value in
     let same_b = lowest_one (unsigned_abs d.b) den b.0 b.1 h.1.num h.1.den above b.2 h.3.value in
@@ -64,16 +65,22 @@ kernel_found Old None name degree named text moments = ap words_of (split_join 3
 kernel_found Old (Some r) name degree named text moments =
     ap words_of (split_join 32 (codes "kernel") (name ∷ degree ∷ codes "moments" ∷ moments_text (Some r) ∷ []) refl (refl, (refl, (refl, (refl, (refl, (refl, tt)))))) (named, (text, ((refl, (refl, (refl, (refl, (refl, (refl, (refl, tt))))))), (moments, tt)))))
 
-words_found : (kind : Kind) (form : Form) (groups : List (List ℕ)) (e : TypeEntry) (degree : List ℕ) → Lacks 32 e.name → Lacks 32 degree → Lacks 32 (group_by kind groups e) → Lacks 32 (moments_text e.moments) → piece_words (join_with_byte 32 (words_by kind form groups e degree)) ≡ Some (the_words kind groups e degree)
+words_found : (kind : Kind) (form : Form) (groups : List (List ℕ)) (e : TypeEntry) (degree : List ℕ) →
+    Lacks 32 e.name → Lacks 32 degree → Lacks 32 (group_by kind groups e) →
+    Lacks 32 (moments_text e.moments) →
+    piece_words (join_with_byte 32 (words_by kind form groups e degree)) ≡ Some (the_words kind groups e degree)
 words_found Noise form groups e degree name text group moments = ap words_of (split_join 32 (codes "noise") (e.name ∷ degree ∷ name_at groups e.group ∷ []) refl (refl, (refl, (refl, (refl, (refl, tt))))) (name, (text, (group, tt))))
 words_found Kernel form groups e degree name text group moments = kernel_found form e.moments e.name degree name text moments
 
-pub piece_found : (form : Form) (den : ℕ) (groups : List (List ℕ)) (e : TypeEntry) (piece : List ℕ) → 0 < den → IsReadable den groups e → (h : IsEntryText form den groups e piece) → piece_words piece ≡ Some (the_words e.kind groups e h.0)
+pub piece_found : (form : Form) (den : ℕ) (groups : List (List ℕ)) (e : TypeEntry) (piece : List ℕ) →
+    0 < den → IsReadable den groups e → (h : IsEntryText form den groups e piece) →
+    piece_words piece ≡ Some (the_words e.kind groups e h.0)
 piece_found form den groups e piece above r h =
     ap piece_words h.2
     ∙ words_found e.kind form groups e h.0 (lacks_name 32 e.name refl r.name) (degree_lacks 32 den e.degree h.0 space_is_other above r.a r.b h.1) (lacks_name 32 (group_by e.kind groups e) refl r.group) (moments_lack 32 e.moments refl refl r.moments)
 
-good_piece : (form : Form) (den : ℕ) (groups : List (List ℕ)) (e : TypeEntry) (piece : List ℕ) → 0 < den → IsReadable den groups e → IsEntryText form den groups e piece → IsGoodPiece piece
+good_piece : (form : Form) (den : ℕ) (groups : List (List ℕ)) (e : TypeEntry) (piece : List ℕ) →
+    0 < den → IsReadable den groups e → IsEntryText form den groups e piece → IsGoodPiece piece
 good_piece form den groups e piece above r h =
     let back = degree_back e.degree den h.0 above r.a r.b h.1 in
     record { words = the_words e.kind groups e h.0; are = piece_found form den groups e piece above r h; good = record { name = r.name; degree = (back.0, back.1, back.2); group = r.group; moments = (e.moments, r.moments, r.moments_are) } }
@@ -81,20 +88,27 @@ good_piece form den groups e piece above r h =
 same_words : (v w : Words) (piece : List ℕ) → piece_words piece ≡ Some v → piece_words piece ≡ Some w → v ≡ w
 same_words v w piece h k = let e : Some v ≡ Some w = sym h ∙ k in cc
 
-entry_draft : (form : Form) (den : ℕ) (groups : List (List ℕ)) (e : TypeEntry) (piece : List ℕ) (d : Draft) → 0 < den → IsReadable den groups e → IsEntryText form den groups e piece → IsPieceDraft piece d → IsEntryDraft den groups e d
+entry_draft : (form : Form) (den : ℕ) (groups : List (List ℕ)) (e : TypeEntry) (piece : List ℕ) (d : Draft) →
+    0 < den → IsReadable den groups e → IsEntryText form den groups e piece → IsPieceDraft piece d →
+    IsEntryDraft den groups e d
 entry_draft form den groups e piece d above r h p =
     let draft : IsDraftOf (the_words e.kind groups e h.0) d = subst (λ w. IsDraftOf w d) (same_words p.words (the_words e.kind groups e h.0) piece p.are (piece_found form den groups e piece above r h)) p.draft in
     record { kind = draft.kind; name = draft.name; group = draft.group; degree = degree_read e.degree den h.0 d.degree above r.a r.b h.1 draft.degree; moments = draft.moments e.moments r.moments r.moments_are }
 
 -- the pieces of a context are good
-pub good_pieces : (form : Form) (den : ℕ) (groups : List (List ℕ)) (es : List TypeEntry) (pieces : List (List ℕ)) → 0 < den → AllByRecursion (IsReadable den groups) es → AllZip (IsEntryText form den groups) es pieces → AllByRecursion IsGoodPiece pieces
+pub good_pieces : (form : Form) (den : ℕ) (groups : List (List ℕ)) (es : List TypeEntry) (pieces : List (List ℕ)) →
+    0 < den → AllByRecursion (IsReadable den groups) es →
+    AllZip (IsEntryText form den groups) es pieces → AllByRecursion IsGoodPiece pieces
 good_pieces form den groups [] [] above r h = tt
 good_pieces form den groups [] (p ∷ pieces) above r h = absurd h
 good_pieces form den groups (e ∷ es) [] above r h = absurd h
 good_pieces form den groups (e ∷ es) (p ∷ pieces) above r h = (good_piece form den groups e p above r.0 h.0, good_pieces form den groups es pieces above r.1 h.1)
 
 -- and what is read of them is read of the types
-pub entry_drafts : (form : Form) (den : ℕ) (groups : List (List ℕ)) (es : List TypeEntry) (pieces : List (List ℕ)) (drafts : List Draft) → 0 < den → AllByRecursion (IsReadable den groups) es → AllZip (IsEntryText form den groups) es pieces → AllZip IsPieceDraft pieces drafts → AllZip (IsEntryDraft den groups) es drafts
+pub entry_drafts : (form : Form) (den : ℕ) (groups : List (List ℕ)) (es : List TypeEntry) (pieces : List (List ℕ)) (drafts : List Draft) →
+    0 < den → AllByRecursion (IsReadable den groups) es →
+    AllZip (IsEntryText form den groups) es pieces → AllZip IsPieceDraft pieces drafts →
+    AllZip (IsEntryDraft den groups) es drafts
 entry_drafts form den groups [] [] [] above r h p = tt
 entry_drafts form den groups [] [] (d ∷ drafts) above r h p = absurd p
 entry_drafts form den groups [] (q ∷ pieces) drafts above r h p = absurd h

@@ -62,7 +62,9 @@ types_numbered ty h =
     (unmapped (λ g. g < length ty.groups) (λ e. e.group) (noises ty) (order_within 0 (map (λ e. e.group) (noises ty)) (length ty.groups) h.numbered)))
     (all_weaker (IsKernelEntry den) (IsNumbered (length ty.groups)) (kernels ty) (λ e k. numbered_by e Kernel (length ty.groups) k.kind k.group) h.of_kernels)
 
-group_named : (groups : List (List ℕ)) (e : TypeEntry) (kind : Kind) → AllByRecursion (λ g. is_name g ≡ true) groups → is_name e.name ≡ true → IsNumber kind e.group (length groups) → is_name (group_by kind groups e) ≡ true
+group_named : (groups : List (List ℕ)) (e : TypeEntry) (kind : Kind) →
+    AllByRecursion (λ g. is_name g ≡ true) groups → is_name e.name ≡ true →
+    IsNumber kind e.group (length groups) → is_name (group_by kind groups e) ≡ true
 group_named groups e Noise names name lt = named_at (λ g. is_name g ≡ true) groups e.group lt names
 group_named groups e Kernel names name none = name
 

@@ -30,7 +30,8 @@ named_at P (n ∷ names) zero lt h = h.0
 named_at P (n ∷ names) (suc g) lt h = named_at P names g (omega (arith, lt)) h.1
 
 -- the place of a name among the first of different names
-place_at : (names : List (List ℕ)) (met g : ℕ) → g < length names → met ≤ length names → AreDifferent names → place_of (take met names) (name_at names g) ≡ min g met
+place_at : (names : List (List ℕ)) (met g : ℕ) → g < length names → met ≤ length names →
+    AreDifferent names → place_of (take met names) (name_at names g) ≡ min g met
 place_at names zero g lt le h = omega arith
 place_at [] (suc met) g lt le h = absurd (omega (arith, lt))
 place_at (n ∷ names) (suc met) zero lt le h = ap (λ b. cond (not b) (1 + place_of (take met names) n) 0) ((bytes_eq-Decides n n).1 refl) ∙ omega arith
@@ -45,7 +46,8 @@ place_whole names g lt h = ap (λ ns. place_of ns (name_at names g)) (sym (take-
 taken_long : (names : List (List ℕ)) (met : ℕ) → met ≤ length names → length (take met names) ≡ met
 taken_long names met le = length-take met names ∙ omega (arith, le)
 
-pub stands_before : (names : List (List ℕ)) (met g : ℕ) → g < met → met ≤ length names → AreDifferent names → stands_in (take met names) (name_at names g) ≡ true
+pub stands_before : (names : List (List ℕ)) (met g : ℕ) → g < met → met ≤ length names →
+    AreDifferent names → stands_in (take met names) (name_at names g) ≡ true
 stands_before names met g lt le h =
     let place = place_at names met g (omega (arith, lt, le)) le h in
     let long = taken_long names met le in
@@ -85,7 +87,10 @@ kernels_ordered met [] all h k = h
 kernels_ordered met (e ∷ es) all h k = subst (λ kind. IsStep kind e.group met (IsOrdered met es all) (IsOrdered (met + 1) es all)) (sym k.0) (kernels_ordered met es all h k.1)
 
 -- noises in their order, then kernels
-pub ordered : (n met : ℕ) (es : List TypeEntry) (all : ℕ) → AllByRecursion (λ e. e.kind ≡ Noise) (take n es) → AllByRecursion (λ e. e.kind ≡ Kernel) (drop n es) → AreInOrder met (map (λ e. e.group) (take n es)) all → IsOrdered met es all
+pub ordered : (n met : ℕ) (es : List TypeEntry) (all : ℕ) →
+    AllByRecursion (λ e. e.kind ≡ Noise) (take n es) →
+    AllByRecursion (λ e. e.kind ≡ Kernel) (drop n es) →
+    AreInOrder met (map (λ e. e.group) (take n es)) all → IsOrdered met es all
 ordered zero met es all noise kernel h = kernels_ordered met es all h kernel
 ordered (suc n) met [] all noise kernel h = h
 ordered (suc n) met (e ∷ es) all noise kernel h =
@@ -95,7 +100,12 @@ ordered (suc n) met (e ∷ es) all noise kernel h =
     by (inl p) old new = inl (p.0, old p.1)
     by (inr p) old new = inr (p.0, new p.1)
 
-step_by : (names : List (List ℕ)) (e : TypeEntry) (es : List TypeEntry) (drafts : List Draft) (met : ℕ) (kind : Kind) → AreDifferent names → IsStep kind e.group met (IsOrdered met es (length names)) (IsOrdered (met + 1) es (length names)) → (IsOrdered met es (length names) → fold with_group (take met names) drafts ≡ names) → (IsOrdered (met + 1) es (length names) → fold with_group (take (met + 1) names) drafts ≡ names) → fold with_group (with_name kind (take met names) (group_by kind names e)) drafts ≡ names
+step_by : (names : List (List ℕ)) (e : TypeEntry) (es : List TypeEntry) (drafts : List Draft) (met : ℕ) (kind : Kind) →
+    AreDifferent names →
+    IsStep kind e.group met (IsOrdered met es (length names)) (IsOrdered (met + 1) es (length names)) →
+    (IsOrdered met es (length names) → fold with_group (take met names) drafts ≡ names) →
+    (IsOrdered (met + 1) es (length names) → fold with_group (take (met + 1) names) drafts ≡ names) →
+    fold with_group (with_name kind (take met names) (group_by kind names e)) drafts ≡ names
 step_by names e es drafts met Noise h (inl p) old new =
     ap (λ b. fold with_group (if b then take met names else take met names ++ name_at names e.group ∷ []) drafts) (stands_before names met e.group p.0 (ordered_most met es (length names) p.1) h) ∙ old p.1
 step_by names e es drafts met Noise h (inr p) old new =
@@ -105,7 +115,9 @@ step_by names e es drafts met Noise h (inr p) old new =
 step_by names e es drafts met Kernel h p old new = old p
 
 -- the groups of what is read
-pub groups_found : (den : ℕ) (names : List (List ℕ)) (es : List TypeEntry) (drafts : List Draft) (met : ℕ) → AreDifferent names → AllZip (IsEntryDraft den names) es drafts → IsOrdered met es (length names) → fold with_group (take met names) drafts ≡ names
+pub groups_found : (den : ℕ) (names : List (List ℕ)) (es : List TypeEntry) (drafts : List Draft) (met : ℕ) →
+    AreDifferent names → AllZip (IsEntryDraft den names) es drafts →
+    IsOrdered met es (length names) → fold with_group (take met names) drafts ≡ names
 groups_found den names [] [] met h read order = ap (λ n. take n names) order ∙ take-length names
 groups_found den names [] (d ∷ drafts) met h read order = absurd read
 groups_found den names (e ∷ es) [] met h read order = absurd read
@@ -121,6 +133,7 @@ IsNumber Kernel g all = g ≡ 0
 abbrev pub IsNumbered : ℕ → TypeEntry → Type 0
 IsNumbered all e = IsNumber e.kind e.group all
 
-pub number_found : (names : List (List ℕ)) (e : TypeEntry) (kind : Kind) → AreDifferent names → IsNumber kind e.group (length names) → number_by kind names (group_by kind names e) ≡ e.group
+pub number_found : (names : List (List ℕ)) (e : TypeEntry) (kind : Kind) → AreDifferent names →
+    IsNumber kind e.group (length names) → number_by kind names (group_by kind names e) ≡ e.group
 number_found names e Noise h lt = place_whole names e.group lt h
 number_found names e Kernel h none = sym none

@@ -30,7 +30,8 @@ degree_has_text d den above =
     let b = lowest_of d.b den above in
     (degree_text a.0 b.0, (a.0, b.0, a.1, b.1, refl))
 
-entries_have_texts : (form : Form) (den : ℕ) (groups : List (List ℕ)) (es : List TypeEntry) → 0 < den → (pieces : List (List ℕ)) × AllZip (IsEntryText form den groups) es pieces
+entries_have_texts : (form : Form) (den : ℕ) (groups : List (List ℕ)) (es : List TypeEntry) →
+    0 < den → (pieces : List (List ℕ)) × AllZip (IsEntryText form den groups) es pieces
 entries_have_texts form den groups [] above = ([], tt)
 entries_have_texts form den groups (e ∷ es) above =
     let degree = degree_has_text e.degree den above in
@@ -42,7 +43,9 @@ types_have_text form ty h =
     let pieces = entries_have_texts form (unsigned_abs ty.units.den) ty.groups ty.list (size_above ty.units.den h.den_above) in
     (join_with_byte 124 (pieces_in form ty pieces.0), (pieces.0, pieces.1, refl))
 
-cleared : (l : ℕ) (d e : ℤ) (ss ts : List TypeEntry) → 0 < unsigned_abs d → AllZip (IsSameEntry (unsigned_abs d) (unsigned_abs e)) ss ts → ClearsAll l (degree_fractions d ss) → ClearsAll l (degree_fractions e ts)
+cleared : (l : ℕ) (d e : ℤ) (ss ts : List TypeEntry) → 0 < unsigned_abs d →
+    AllZip (IsSameEntry (unsigned_abs d) (unsigned_abs e)) ss ts →
+    ClearsAll l (degree_fractions d ss) → ClearsAll l (degree_fractions e ts)
 cleared l d e [] [] above h c = tt
 cleared l d e [] (t ∷ ts) above h c = absurd h
 cleared l d e (s ∷ ss) [] above h c = absurd h
@@ -51,7 +54,9 @@ cleared l d e (s ∷ ss) (t ∷ ts) above h c = (
   (clears_same s.degree.b (unsigned_abs d) t.degree.b (unsigned_abs e) l above h.0.b c.1.0, cleared l d e ss ts above h.1 c.1.1),
 )
 
-cleared_back : (l : ℕ) (d e : ℤ) (ss ts : List TypeEntry) → 0 < unsigned_abs e → AllZip (IsSameEntry (unsigned_abs d) (unsigned_abs e)) ss ts → ClearsAll l (degree_fractions e ts) → ClearsAll l (degree_fractions d ss)
+cleared_back : (l : ℕ) (d e : ℤ) (ss ts : List TypeEntry) → 0 < unsigned_abs e →
+    AllZip (IsSameEntry (unsigned_abs d) (unsigned_abs e)) ss ts →
+    ClearsAll l (degree_fractions e ts) → ClearsAll l (degree_fractions d ss)
 cleared_back l d e [] [] above h c = tt
 cleared_back l d e [] (t ∷ ts) above h c = absurd h
 cleared_back l d e (s ∷ ss) [] above h c = absurd h

@@ -47,7 +47,8 @@ numbers_one (x ∷ ms) (y ∷ ns) m n e =
     let y_small = n.0 in
     ap (λ z. z ∷ ms) (number_one x y (omega (arith, x_small)) (omega (arith, y_small)) (head_one e)) ∙ ap (λ zs. y ∷ zs) (numbers_one ms ns m.1 n.1 (tail_one e))
 
-entries_one : (s t : Types) → IsScaling s.dims s.scaling → IsScaling t.dims t.scaling → scaling_text s ≡ scaling_text t → take s.dims s.scaling ≡ take t.dims t.scaling
+entries_one : (s t : Types) → IsScaling s.dims s.scaling → IsScaling t.dims t.scaling →
+    scaling_text s ≡ scaling_text t → take s.dims s.scaling ≡ take t.dims t.scaling
 entries_one s t h k e =
     let words = sym (scaling_words s h) ∙ ap (slice_split (λ b. b == 32)) e ∙ scaling_words t k in
     let joined = head_one (tail_one words) in
@@ -57,7 +58,8 @@ entries_one s t h k e =
 abbrev five : List ℕ → List ℕ
 five es = slice_index es 0 ∷ slice_index es 1 ∷ slice_index es 2 ∷ slice_index es 3 ∷ slice_index es 4 ∷ []
 
-scaling_one : (s t : Types) → IsScaling s.dims s.scaling → IsScaling t.dims t.scaling → scaling_text s ≡ scaling_text t → (s.dims ≡ t.dims) × (s.scaling ≡ t.scaling)
+scaling_one : (s t : Types) → IsScaling s.dims s.scaling → IsScaling t.dims t.scaling →
+    scaling_text s ≡ scaling_text t → (s.dims ≡ t.dims) × (s.scaling ≡ t.scaling)
 scaling_one s t h k e =
     let same = entries_one s t h k e in
     let long : length (take s.dims s.scaling) ≡ length (take t.dims t.scaling) = ap length same in (
@@ -90,7 +92,10 @@ record HasWords (gs hs : List (List ℕ)) (s t : TypeEntry) : Type 0 where
 some_words : (v w : Words) (o : Option Words) → o ≡ Some v → o ≡ Some w → v ≡ w
 some_words v w o h k = let e : Some v ≡ Some w = sym h ∙ k in cc
 
-entry_one : (form : Form) (d e : ℕ) (gs hs : List (List ℕ)) (s t : TypeEntry) (piece : List ℕ) → 0 < d → 0 < e → IsReadable d gs s → IsReadable e hs t → IsEntryText form d gs s piece → IsEntryText form e hs t piece → HasWords gs hs s t × IsSameFraction s.degree.a d t.degree.a e × IsSameFraction s.degree.b d t.degree.b e
+entry_one : (form : Form) (d e : ℕ) (gs hs : List (List ℕ)) (s t : TypeEntry) (piece : List ℕ) →
+    0 < d → 0 < e → IsReadable d gs s → IsReadable e hs t → IsEntryText form d gs s piece →
+    IsEntryText form e hs t piece →
+    HasWords gs hs s t × IsSameFraction s.degree.a d t.degree.a e × IsSameFraction s.degree.b d t.degree.b e
 entry_one form d e gs hs s t piece d_above e_above r q h k =
     let same = some_words (the_words s.kind gs s h.0) (the_words t.kind hs t k.0) (piece_words piece) (piece_found form d gs s piece d_above r h) (piece_found form e hs t piece e_above q k) in
     let numbers = degrees_one s.degree d t.degree e k.0 d_above e_above r.a r.b q.a q.b (subst (λ text. IsDegreeText s.degree d text) (ap (λ w. w.degree) same) h.1) k.1 in
@@ -100,7 +105,12 @@ entry_one form d e gs hs s t piece d_above e_above r q h k =
 abbrev with_entry : List (List ℕ) → List (List ℕ) → TypeEntry → List (List ℕ)
 with_entry gs met e = with_name e.kind met (group_by e.kind gs e)
 
-step_by : (names : List (List ℕ)) (e : TypeEntry) (es : List TypeEntry) (met : ℕ) (kind : Kind) → AreDifferent names → IsStep kind e.group met (IsOrdered met es (length names)) (IsOrdered (met + 1) es (length names)) → (IsOrdered met es (length names) → fold (with_entry names) (take met names) es ≡ names) → (IsOrdered (met + 1) es (length names) → fold (with_entry names) (take (met + 1) names) es ≡ names) → fold (with_entry names) (with_name kind (take met names) (group_by kind names e)) es ≡ names
+step_by : (names : List (List ℕ)) (e : TypeEntry) (es : List TypeEntry) (met : ℕ) (kind : Kind) →
+    AreDifferent names →
+    IsStep kind e.group met (IsOrdered met es (length names)) (IsOrdered (met + 1) es (length names)) →
+    (IsOrdered met es (length names) → fold (with_entry names) (take met names) es ≡ names) →
+    (IsOrdered (met + 1) es (length names) → fold (with_entry names) (take (met + 1) names) es ≡ names) →
+    fold (with_entry names) (with_name kind (take met names) (group_by kind names e)) es ≡ names
 step_by names e es met Noise h (inl p) old new =
     ap (λ b. fold (with_entry names) (if b then take met names else take met names ++ name_at names e.group ∷ []) es) (stands_before names met e.group p.0 (ordered_most met es (length names) p.1) h) ∙ old p.1
 step_by names e es met Noise h (inr p) old new =
@@ -109,7 +119,8 @@ step_by names e es met Noise h (inr p) old new =
     ∙ ap (λ b. fold (with_entry names) (if b then take met names else take met names ++ name_at names met ∷ []) es) (not_yet names met lt h) ∙ ap (λ ns. fold (with_entry names) ns es) (one_more_name names met lt) ∙ new p.1
 step_by names e es met Kernel h p old new = old p
 
-names_found : (names : List (List ℕ)) (es : List TypeEntry) (met : ℕ) → AreDifferent names → IsOrdered met es (length names) → fold (with_entry names) (take met names) es ≡ names
+names_found : (names : List (List ℕ)) (es : List TypeEntry) (met : ℕ) → AreDifferent names →
+    IsOrdered met es (length names) → fold (with_entry names) (take met names) es ≡ names
 names_found names [] met h order = ap (λ n. take n names) order ∙ take-length names
 names_found names (e ∷ es) met h order = step_by names e es met e.kind h order (names_found names es met h) (names_found names es (met + 1) h)
 
@@ -120,7 +131,10 @@ same_fold gs hs met (s ∷ ss) [] h = absurd h
 same_fold gs hs met (s ∷ ss) (t ∷ ts) h =
     ap (λ name. fold (with_entry gs) (with_name s.kind met name) ss) h.0.group ∙ ap (λ kind. fold (with_entry gs) (with_name kind met (group_by t.kind hs t)) ss) h.0.kind ∙ same_fold gs hs (with_entry hs met t) ss ts h.1
 
-all_words : (form : Form) (d e : ℕ) (gs hs : List (List ℕ)) (ss ts : List TypeEntry) (pieces : List (List ℕ)) → 0 < d → 0 < e → AllByRecursion (IsReadable d gs) ss → AllByRecursion (IsReadable e hs) ts → AllZip (IsEntryText form d gs) ss pieces → AllZip (IsEntryText form e hs) ts pieces → AllZip (HasWords gs hs) ss ts
+all_words : (form : Form) (d e : ℕ) (gs hs : List (List ℕ)) (ss ts : List TypeEntry) (pieces : List (List ℕ)) →
+    0 < d → 0 < e → AllByRecursion (IsReadable d gs) ss → AllByRecursion (IsReadable e hs) ts →
+    AllZip (IsEntryText form d gs) ss pieces → AllZip (IsEntryText form e hs) ts pieces →
+    AllZip (HasWords gs hs) ss ts
 all_words form d e gs hs [] [] [] above other r q h k = tt
 all_words form d e gs hs [] ts (p ∷ pieces) above other r q h k = absurd h
 all_words form d e gs hs [] (t ∷ ts) [] above other r q h k = absurd k
@@ -132,11 +146,17 @@ groups_one : (s t : Types) → AreTypes s → AreTypes t → AllZip (HasWords s.
 groups_one s t h k words =
     sym (names_found s.groups s.list 0 h.groups.different (types_ordered s h)) ∙ same_fold s.groups t.groups [] s.list t.list words ∙ names_found t.groups t.list 0 k.groups.different (types_ordered t k)
 
-number_by : (names : List (List ℕ)) (s t : TypeEntry) (kind : Kind) → AreDifferent names → IsNumber kind s.group (length names) → IsNumber kind t.group (length names) → group_by kind names s ≡ group_by kind names t → s.group ≡ t.group
+number_by : (names : List (List ℕ)) (s t : TypeEntry) (kind : Kind) → AreDifferent names →
+    IsNumber kind s.group (length names) → IsNumber kind t.group (length names) →
+    group_by kind names s ≡ group_by kind names t → s.group ≡ t.group
 number_by names s t Noise h a b e = sym (place_whole names s.group a h) ∙ ap (place_of names) e ∙ place_whole names t.group b h
 number_by names s t Kernel h a b e = a ∙ sym b
 
-entries_same : (form : Form) (d e : ℕ) (gs : List (List ℕ)) (ss ts : List TypeEntry) (pieces : List (List ℕ)) → 0 < d → 0 < e → AreDifferent gs → AllByRecursion (IsNumbered (length gs)) ss → AllByRecursion (IsNumbered (length gs)) ts → AllByRecursion (IsReadable d gs) ss → AllByRecursion (IsReadable e gs) ts → AllZip (IsEntryText form d gs) ss pieces → AllZip (IsEntryText form e gs) ts pieces → AllZip (IsSameEntry d e) ss ts
+entries_same : (form : Form) (d e : ℕ) (gs : List (List ℕ)) (ss ts : List TypeEntry) (pieces : List (List ℕ)) →
+    0 < d → 0 < e → AreDifferent gs → AllByRecursion (IsNumbered (length gs)) ss →
+    AllByRecursion (IsNumbered (length gs)) ts → AllByRecursion (IsReadable d gs) ss →
+    AllByRecursion (IsReadable e gs) ts → AllZip (IsEntryText form d gs) ss pieces →
+    AllZip (IsEntryText form e gs) ts pieces → AllZip (IsSameEntry d e) ss ts
 entries_same form d e gs [] [] [] above other different m n r q h k = tt
 entries_same form d e gs [] ts (p ∷ pieces) above other different m n r q h k = absurd h
 entries_same form d e gs [] (t ∷ ts) [] above other different m n r q h k = absurd k

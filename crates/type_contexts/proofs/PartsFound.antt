@@ -13,11 +13,14 @@ use Rattle.type_contexts.specs.Context.{words_by, moments_words, IsEntryText, sc
 use Rattle.type_contexts.proofs.Pieces.{three_parts}
 use Rattle.type_contexts.specs.Parts.{Parts, is_reflect_piece, entry_count, old_parts, parts_in}
 
-words_other : (kind : Kind) (form : Form) (groups : List (List ℕ)) (e : TypeEntry) (degree : List ℕ) → is_reflect_piece (join_with_byte 32 (words_by kind form groups e degree)) ≡ false
+words_other : (kind : Kind) (form : Form) (groups : List (List ℕ)) (e : TypeEntry) (degree : List ℕ) →
+    is_reflect_piece (join_with_byte 32 (words_by kind form groups e degree)) ≡ false
 words_other Noise form groups e degree = refl
 words_other Kernel form groups e degree = refl
 
-entries_other : (form : Form) (den : ℕ) (groups : List (List ℕ)) (es : List TypeEntry) (entries : List (List ℕ)) → AllZip (IsEntryText form den groups) es entries → AllByRecursion (λ p. is_reflect_piece p ≡ false) entries
+entries_other : (form : Form) (den : ℕ) (groups : List (List ℕ)) (es : List TypeEntry) (entries : List (List ℕ)) →
+    AllZip (IsEntryText form den groups) es entries →
+    AllByRecursion (λ p. is_reflect_piece p ≡ false) entries
 entries_other form den groups [] [] h = tt
 entries_other form den groups [] (p ∷ ps) h = absurd h
 entries_other form den groups (e ∷ es) [] h = absurd h
@@ -34,7 +37,9 @@ one_more : (b : Bool) (n m : ℕ) → b ≡ false → n ≡ m → cond (not b) (
 one_more false n m e same = omega (arith, same)
 one_more true n m e same = absurd cc
 
-counted : (entries rest : List (List ℕ)) → AllByRecursion (λ p. is_reflect_piece p ≡ false) entries → entry_count rest ≡ 0 → entry_count (entries ++ rest) ≡ length entries
+counted : (entries rest : List (List ℕ)) →
+    AllByRecursion (λ p. is_reflect_piece p ≡ false) entries → entry_count rest ≡ 0 →
+    entry_count (entries ++ rest) ≡ length entries
 counted [] rest h none = none
 counted (p ∷ entries) rest h none = one_more (is_reflect_piece p) (entry_count (entries ++ rest)) (length entries) h.0 (counted entries rest h.1 none)
 
@@ -49,7 +54,9 @@ first_reflect (i ∷ is) ty e = refl
 abbrev parts_by : List ℕ → List ℕ → List (List ℕ) → Parts
 parts_by scaling reflect entries = record { scaling = scaling; reflect = reflect; entries = entries }
 
-old_found : (ty : Types) (entries : List (List ℕ)) → AllByRecursion (λ p. is_reflect_piece p ≡ false) entries → old_parts (scaling_text ty) (entries ++ reflect_pieces ty.reflect ty) ≡ parts_by (scaling_text ty) (reflect_text ty) entries
+old_found : (ty : Types) (entries : List (List ℕ)) →
+    AllByRecursion (λ p. is_reflect_piece p ≡ false) entries →
+    old_parts (scaling_text ty) (entries ++ reflect_pieces ty.reflect ty) ≡ parts_by (scaling_text ty) (reflect_text ty) entries
 old_found ty entries h =
     let rest = reflect_pieces ty.reflect ty in
     let count : entry_count (entries ++ rest) ≡ length entries = counted entries rest h (none_counted ty.reflect ty) in
@@ -72,20 +79,29 @@ take_mapped f [] (suc n) = refl
 take_mapped f (p ∷ rest) (suc n) = ap (λ ps. f p ∷ ps) (take_mapped f rest n)
 
 -- the parts that the code keeps
-pub old_seen : {A : Type 0} (f : A → List ℕ) (scaling reflect : List ℕ) (rest : List A) (count : ℕ) → count ≡ prefix_len (λ s. not (is_reflect_piece (f s))) rest → reflect ≡ unwrap_or (option_map f (slice_get rest count)) (codes "reflect -") → parts_by scaling reflect (map f (take count rest)) ≡ old_parts scaling (map f rest)
+pub old_seen : {A : Type 0} (f : A → List ℕ) (scaling reflect : List ℕ) (rest : List A) (count : ℕ) →
+    count ≡ prefix_len (λ s. not (is_reflect_piece (f s))) rest →
+    reflect ≡ unwrap_or (option_map f (slice_get rest count)) (codes "reflect -") →
+    parts_by scaling reflect (map f (take count rest)) ≡ old_parts scaling (map f rest)
 old_seen f scaling reflect rest count counted is =
     ap (λ r. parts_by scaling r (map f (take count rest))) (is ∙ ap (λ o. unwrap_or o (codes "reflect -")) (get_mapped f rest count))
     ∙ ap (λ ps. parts_by scaling (unwrap_or (slice_get (map f rest) count) (codes "reflect -")) ps) (take_mapped f rest count)
     ∙ ap (λ n. parts_by scaling (unwrap_or (slice_get (map f rest) n) (codes "reflect -")) (take n (map f rest))) (counted ∙ prefix_mapped f rest)
 
 -- the text of a context from its parts
-pub whole_text : (form : Form) (ty : Types) (entries : List (List ℕ)) (front middle whole : List ℕ) → front ≡ join_with_byte 124 (front_pieces form ty) → middle ≡ join_with_byte 124 (front ∷ entries) → whole ≡ join_with_byte 124 (middle ∷ back_pieces form ty) → whole ≡ join_with_byte 124 (pieces_in form ty entries)
+pub whole_text : (form : Form) (ty : Types) (entries : List (List ℕ)) (front middle whole : List ℕ) →
+    front ≡ join_with_byte 124 (front_pieces form ty) →
+    middle ≡ join_with_byte 124 (front ∷ entries) →
+    whole ≡ join_with_byte 124 (middle ∷ back_pieces form ty) →
+    whole ≡ join_with_byte 124 (pieces_in form ty entries)
 whole_text New ty entries front middle whole f m w =
     w ∙ ap (λ x. join_with_byte 124 (x ∷ [])) (m ∙ ap (λ x. join_with_byte 124 (x ∷ entries)) f) ∙ three_parts 124 (codes "context 2") (scaling_text ty ∷ reflect_text ty ∷ []) entries []
 whole_text Old ty entries front middle whole f m w =
     w ∙ ap (λ x. join_with_byte 124 (x ∷ reflect_pieces ty.reflect ty)) (m ∙ ap (λ x. join_with_byte 124 (x ∷ entries)) f) ∙ three_parts 124 (scaling_text ty) [] entries (reflect_pieces ty.reflect ty)
 
 -- the parts of the pieces of a context
-pub parts_found : (form : Form) (ty : Types) (den : ℕ) (groups : List (List ℕ)) (es : List TypeEntry) (entries : List (List ℕ)) → AllZip (IsEntryText form den groups) es entries → parts_in form (pieces_in form ty entries) ≡ Some (parts_by (scaling_text ty) (reflect_text ty) entries)
+pub parts_found : (form : Form) (ty : Types) (den : ℕ) (groups : List (List ℕ)) (es : List TypeEntry) (entries : List (List ℕ)) →
+    AllZip (IsEntryText form den groups) es entries →
+    parts_in form (pieces_in form ty entries) ≡ Some (parts_by (scaling_text ty) (reflect_text ty) entries)
 parts_found New ty den groups es entries h = ap (λ ps. Some (parts_by (scaling_text ty) (reflect_text ty) ps)) (append-nil entries)
 parts_found Old ty den groups es entries h = ap Some (old_found ty entries (entries_other Old den groups es entries h))

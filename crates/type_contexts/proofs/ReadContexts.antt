@@ -25,19 +25,30 @@ memory_else ContextText other = absurd (other refl)
 memory_else Memory other = refl
 
 -- there are as many entries as types
-pub entries_few : {A : Type 0} (f : A → List ℕ) (form : Form) (ty : Types) (entries : List A) → AreTypes ty → AllZip (IsEntryText form (unsigned_abs ty.units.den) ty.groups) ty.list (map f entries) → length entries ≤ 16
+pub entries_few : {A : Type 0} (f : A → List ℕ) (form : Form) (ty : Types) (entries : List A) →
+    AreTypes ty →
+    AllZip (IsEntryText form (unsigned_abs ty.units.den) ty.groups) ty.list (map f entries) →
+    length entries ≤ 16
 entries_few f form ty entries types h =
     let same : length (map f entries) ≡ length ty.list = AllZip-long (IsEntryText form (unsigned_abs ty.units.den) ty.groups) ty.list (map f entries) h in
     omega (arith, length-map entries f, same, type_count_most ty types)
 
-pub entries_good : {A : Type 0} (f : A → List ℕ) (form : Form) (ty : Types) (entries : List A) → AreTypes ty → AllZip (IsEntryText form (unsigned_abs ty.units.den) ty.groups) ty.list (map f entries) → AllByRecursion IsGoodPiece (map f entries)
+pub entries_good : {A : Type 0} (f : A → List ℕ) (form : Form) (ty : Types) (entries : List A) →
+    AreTypes ty →
+    AllZip (IsEntryText form (unsigned_abs ty.units.den) ty.groups) ty.list (map f entries) →
+    AllByRecursion IsGoodPiece (map f entries)
 entries_good f form ty entries types h = good_pieces form (unsigned_abs ty.units.den) ty.groups ty.list (map f entries) (size_above ty.units.den types.den_above) (types_readable ty types) h
 
-pub entries_drafts : {A : Type 0} (f : A → List ℕ) (form : Form) (ty : Types) (entries : List A) (drafts : List Draft) → AreTypes ty → AllZip (IsEntryText form (unsigned_abs ty.units.den) ty.groups) ty.list (map f entries) → AllZip (λ s d. IsPieceDraft (f s) d) entries drafts → AllZip (IsEntryDraft (unsigned_abs ty.units.den) ty.groups) ty.list drafts
+pub entries_drafts : {A : Type 0} (f : A → List ℕ) (form : Form) (ty : Types) (entries : List A) (drafts : List Draft) →
+    AreTypes ty →
+    AllZip (IsEntryText form (unsigned_abs ty.units.den) ty.groups) ty.list (map f entries) →
+    AllZip (λ s d. IsPieceDraft (f s) d) entries drafts →
+    AllZip (IsEntryDraft (unsigned_abs ty.units.den) ty.groups) ty.list drafts
 entries_drafts f form ty entries drafts types h k =
     entry_drafts form (unsigned_abs ty.units.den) ty.groups ty.list (map f entries) drafts (size_above ty.units.den types.den_above) (types_readable ty types) h (zip_map IsPieceDraft f entries drafts k)
 
-pub drafts_few : {A : Type 0} (R : A → Draft → Type 0) (entries : List A) (drafts : List Draft) → length entries ≤ 16 → AllZip R entries drafts → length drafts ≤ 255
+pub drafts_few : {A : Type 0} (R : A → Draft → Type 0) (entries : List A) (drafts : List Draft) →
+    length entries ≤ 16 → AllZip R entries drafts → length drafts ≤ 255
 drafts_few R entries drafts few h =
     let long : length drafts ≡ length entries = AllZip-long R entries drafts h in
     omega (arith, long, few)
@@ -49,13 +60,17 @@ some_parts : (p q : Parts) → ◌≡◌ {A = Option Parts} (Some p) (Some q) �
 some_parts p q e = cc
 
 -- what is found in the pieces of a context are its parts
-pub parts_said : (form : Form) (ty : Types) (text : List ℕ) (pieces : List (List ℕ)) (p : Parts) → AreTypes ty → IsTextIn form ty text → pieces ≡ slice_split (λ b. b == 124) text → Some p ≡ parts_in form pieces → ArePartsOf form ty p
+pub parts_said : (form : Form) (ty : Types) (text : List ℕ) (pieces : List (List ℕ)) (p : Parts) →
+    AreTypes ty → IsTextIn form ty text → pieces ≡ slice_split (λ b. b == 124) text →
+    Some p ≡ parts_in form pieces → ArePartsOf form ty p
 parts_said form ty text pieces p types told cut found =
     parts_are form ty (record { scaling = scaling_text ty; reflect = reflect_text ty; entries = told.0 }) p
     (some_parts p (record { scaling = scaling_text ty; reflect = reflect_text ty; entries = told.0 }) (found ∙ ap (parts_in form) cut ∙ context_parts form ty text types told))
     (record { scaling = refl; reflect = refl; entries = told.1 })
 
-pub parts_none : (form : Form) (ty : Types) (text : List ℕ) (pieces : List (List ℕ)) → AreTypes ty → IsTextIn form ty text → pieces ≡ slice_split (λ b. b == 124) text → None ≡ parts_in form pieces → ⊥
+pub parts_none : (form : Form) (ty : Types) (text : List ℕ) (pieces : List (List ℕ)) → AreTypes ty →
+    IsTextIn form ty text → pieces ≡ slice_split (λ b. b == 124) text →
+    None ≡ parts_in form pieces → ⊥
 parts_none form ty text pieces types told cut found =
     never (record { scaling = scaling_text ty; reflect = reflect_text ty; entries = told.0 }) (found ∙ ap (parts_in form) cut ∙ context_parts form ty text types told)
   where

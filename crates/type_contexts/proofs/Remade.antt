@@ -29,7 +29,8 @@ use Rattle.type_contexts.proofs.Scalings.{entries_lack}
 abbrev degrees : List Draft → List Fraction
 degrees drafts = fractions (map (λ d. d.degree) drafts)
 
-clears_drafts : (den : ℕ) (groups : List (List ℕ)) (es : List TypeEntry) (drafts : List Draft) → AllZip (IsEntryDraft den groups) es drafts → ClearsAll den (degrees drafts)
+clears_drafts : (den : ℕ) (groups : List (List ℕ)) (es : List TypeEntry) (drafts : List Draft) →
+    AllZip (IsEntryDraft den groups) es drafts → ClearsAll den (degrees drafts)
 clears_drafts den groups [] [] h = tt
 clears_drafts den groups [] (d ∷ drafts) h = absurd h
 clears_drafts den groups (e ∷ es) [] h = absurd h
@@ -39,7 +40,9 @@ clears_drafts den groups (e ∷ es) (d ∷ drafts) h = (
 )
 
 -- the degrees that are read have a common denominator
-pub not_past : (ty : Types) (drafts : List Draft) → AreTypes ty → AllZip (IsEntryDraft (unsigned_abs ty.units.den) ty.groups) ty.list drafts → IsPast (degrees drafts) → ⊥
+pub not_past : (ty : Types) (drafts : List Draft) → AreTypes ty →
+    AllZip (IsEntryDraft (unsigned_abs ty.units.den) ty.groups) ty.list drafts →
+    IsPast (degrees drafts) → ⊥
 not_past ty drafts types h past =
     let most = past (unsigned_abs ty.units.den) (size_above ty.units.den types.den_above) (clears_drafts (unsigned_abs ty.units.den) ty.groups ty.list drafts h) in
     let small = den_small ty types in
@@ -55,7 +58,9 @@ in_unit u groups d e above h = record {
   b = same_from_products e.degree.b u d.degree.b_num d.degree.b_den above d.degree.b_den_above h.b;
 }
 
-clears_entries : (l : ℕ) (u : ℤ) (groups : List (List ℕ)) (drafts : List Draft) (es : List TypeEntry) → pos 0 <ℤ u → AllZip (IsEntryOf u groups) drafts es → ClearsAll l (degrees drafts) → ClearsAll l (degree_fractions u es)
+clears_entries : (l : ℕ) (u : ℤ) (groups : List (List ℕ)) (drafts : List Draft) (es : List TypeEntry) →
+    pos 0 <ℤ u → AllZip (IsEntryOf u groups) drafts es → ClearsAll l (degrees drafts) →
+    ClearsAll l (degree_fractions u es)
 clears_entries l u groups [] [] above h c = tt
 clears_entries l u groups [] (e ∷ es) above h c = absurd h
 clears_entries l u groups (d ∷ drafts) [] above h c = absurd h
@@ -68,7 +73,9 @@ clears_entries l u groups (d ∷ drafts) (e ∷ es) above h c =
       ),
     )
 
-cleared_drafts : (l : ℕ) (u : ℤ) (groups : List (List ℕ)) (drafts : List Draft) (es : List TypeEntry) → pos 0 <ℤ u → AllZip (IsEntryOf u groups) drafts es → ClearsAll l (degree_fractions u es) → ClearsAll l (degrees drafts)
+cleared_drafts : (l : ℕ) (u : ℤ) (groups : List (List ℕ)) (drafts : List Draft) (es : List TypeEntry) →
+    pos 0 <ℤ u → AllZip (IsEntryOf u groups) drafts es → ClearsAll l (degree_fractions u es) →
+    ClearsAll l (degrees drafts)
 cleared_drafts l u groups [] [] above h c = tt
 cleared_drafts l u groups [] (e ∷ es) above h c = absurd h
 cleared_drafts l u groups (d ∷ drafts) [] above h c = absurd h
@@ -85,7 +92,9 @@ made_least dims scaling reflect drafts ty h = record {
   least = λ x c. h.units.least.least x (cleared_drafts x ty.units.den ty.groups drafts ty.list h.units.above h.list c);
 }
 
-same_entry : (den : ℕ) (u : ℤ) (groups : List (List ℕ)) (e t : TypeEntry) (d : Draft) → pos 0 <ℤ u → AreDifferent groups → IsNumbered (length groups) e → IsEntryDraft den groups e d → IsEntryOf u groups d t → IsSameEntry den (unsigned_abs u) e t
+same_entry : (den : ℕ) (u : ℤ) (groups : List (List ℕ)) (e t : TypeEntry) (d : Draft) → pos 0 <ℤ u →
+    AreDifferent groups → IsNumbered (length groups) e → IsEntryDraft den groups e d →
+    IsEntryOf u groups d t → IsSameEntry den (unsigned_abs u) e t
 same_entry den u groups e t d above different number h k =
     let unit = in_unit u groups d t above k in
     record {
@@ -97,7 +106,10 @@ same_entry den u groups e t d above different number h k =
       b = same_trans e.degree.b den d.degree.b_num (unsigned_abs d.degree.b_den) t.degree.b (unsigned_abs u) (size_above d.degree.b_den d.degree.b_den_above) h.degree.b (same_sym t.degree.b (unsigned_abs u) d.degree.b_num (unsigned_abs d.degree.b_den) unit.b);
     }
 
-same_entries : (den : ℕ) (u : ℤ) (groups : List (List ℕ)) (es ts : List TypeEntry) (drafts : List Draft) → pos 0 <ℤ u → AreDifferent groups → AllByRecursion (IsNumbered (length groups)) es → AllZip (IsEntryDraft den groups) es drafts → AllZip (IsEntryOf u groups) drafts ts → AllZip (IsSameEntry den (unsigned_abs u)) es ts
+same_entries : (den : ℕ) (u : ℤ) (groups : List (List ℕ)) (es ts : List TypeEntry) (drafts : List Draft) →
+    pos 0 <ℤ u → AreDifferent groups → AllByRecursion (IsNumbered (length groups)) es →
+    AllZip (IsEntryDraft den groups) es drafts → AllZip (IsEntryOf u groups) drafts ts →
+    AllZip (IsSameEntry den (unsigned_abs u)) es ts
 same_entries den u groups [] [] [] above different number h k = tt
 same_entries den u groups [] (t ∷ ts) [] above different number h k = absurd k
 same_entries den u groups [] ts (d ∷ drafts) above different number h k = absurd h
@@ -106,7 +118,9 @@ same_entries den u groups (e ∷ es) [] (d ∷ drafts) above different number h 
 same_entries den u groups (e ∷ es) (t ∷ ts) (d ∷ drafts) above different number h k = (same_entry den u groups e t d above different number.0 h.0 k.0, same_entries den u groups es ts drafts above different number.1 h.1 k.1)
 
 -- the types that are made are the same types
-pub made_same : (ty made : Types) (drafts : List Draft) → AreTypes ty → AllZip (IsEntryDraft (unsigned_abs ty.units.den) ty.groups) ty.list drafts → AreMadeOf ty.dims ty.scaling ty.reflect drafts made → AreSameTypes ty made
+pub made_same : (ty made : Types) (drafts : List Draft) → AreTypes ty →
+    AllZip (IsEntryDraft (unsigned_abs ty.units.den) ty.groups) ty.list drafts →
+    AreMadeOf ty.dims ty.scaling ty.reflect drafts made → AreSameTypes ty made
 made_same ty made drafts types h m =
     let groups : made.groups ≡ ty.groups = m.groups ∙ groups_found (unsigned_abs ty.units.den) ty.groups ty.list drafts 0 types.groups.different h (types_ordered ty types) in
     record {
@@ -117,18 +131,25 @@ made_same ty made drafts types h m =
       reflect = sym m.reflect_is;
     }
 
-kernel_lacks : (form : Form) (m : Option ℕ) (name degree : List ℕ) → Lacks 124 name → Lacks 124 degree → Lacks 124 (moments_text m) → Lacks 124 (join_with_byte 32 (codes "kernel" ∷ name ∷ degree ∷ moments_words form m))
+kernel_lacks : (form : Form) (m : Option ℕ) (name degree : List ℕ) → Lacks 124 name →
+    Lacks 124 degree → Lacks 124 (moments_text m) →
+    Lacks 124 (join_with_byte 32 (codes "kernel" ∷ name ∷ degree ∷ moments_words form m))
 kernel_lacks New m name degree named text moments = lacks_join 124 32 (codes "kernel" ∷ name ∷ degree ∷ moments_words New m) refl ((refl, (refl, (refl, (refl, (refl, (refl, tt)))))), (named, (text, (moments, tt))))
 kernel_lacks Old None name degree named text moments = lacks_join 124 32 (codes "kernel" ∷ name ∷ degree ∷ []) refl ((refl, (refl, (refl, (refl, (refl, (refl, tt)))))), (named, (text, tt)))
 kernel_lacks Old (Some r) name degree named text moments =
     lacks_join 124 32 (codes "kernel" ∷ name ∷ degree ∷ moments_words Old (Some r)) refl
     ((refl, (refl, (refl, (refl, (refl, (refl, tt)))))), (named, (text, ((refl, (refl, (refl, (refl, (refl, (refl, (refl, tt))))))), (moments, tt)))))
 
-words_lack : (kind : Kind) (form : Form) (groups : List (List ℕ)) (e : TypeEntry) (degree : List ℕ) → Lacks 124 e.name → Lacks 124 degree → Lacks 124 (group_by kind groups e) → Lacks 124 (moments_text e.moments) → Lacks 124 (join_with_byte 32 (words_by kind form groups e degree))
+words_lack : (kind : Kind) (form : Form) (groups : List (List ℕ)) (e : TypeEntry) (degree : List ℕ) →
+    Lacks 124 e.name → Lacks 124 degree → Lacks 124 (group_by kind groups e) →
+    Lacks 124 (moments_text e.moments) →
+    Lacks 124 (join_with_byte 32 (words_by kind form groups e degree))
 words_lack Noise form groups e degree name text group moments = lacks_join 124 32 (words_by Noise form groups e degree) refl ((refl, (refl, (refl, (refl, (refl, tt))))), (name, (text, (group, tt))))
 words_lack Kernel form groups e degree name text group moments = kernel_lacks form e.moments e.name degree name text moments
 
-pieces_lack : (form : Form) (den : ℕ) (groups : List (List ℕ)) (es : List TypeEntry) (pieces : List (List ℕ)) → 0 < den → AllByRecursion (IsReadable den groups) es → AllZip (IsEntryText form den groups) es pieces → AllByRecursion (Lacks 124) pieces
+pieces_lack : (form : Form) (den : ℕ) (groups : List (List ℕ)) (es : List TypeEntry) (pieces : List (List ℕ)) →
+    0 < den → AllByRecursion (IsReadable den groups) es →
+    AllZip (IsEntryText form den groups) es pieces → AllByRecursion (Lacks 124) pieces
 pieces_lack form den groups [] [] above r h = tt
 pieces_lack form den groups [] (p ∷ pieces) above r h = absurd h
 pieces_lack form den groups (e ∷ es) [] above r h = absurd h
@@ -150,7 +171,8 @@ back_lack [] ty h = tt
 back_lack (i ∷ is) ty h = (h, tt)
 
 -- a context is cut into its pieces
-pub context_cut : (form : Form) (ty : Types) (text : List ℕ) → AreTypes ty → (h : IsTextIn form ty text) → slice_split (λ b. b == 124) text ≡ pieces_in form ty h.0
+pub context_cut : (form : Form) (ty : Types) (text : List ℕ) → AreTypes ty →
+    (h : IsTextIn form ty text) → slice_split (λ b. b == 124) text ≡ pieces_in form ty h.0
 context_cut New ty text types h =
     let entries = pieces_lack New (unsigned_abs ty.units.den) ty.groups ty.list h.0 (size_above ty.units.den types.den_above) (types_readable ty types) h.1 in
     ap (slice_split (λ b. b == 124)) h.2

@@ -1,4 +1,5 @@
--- Types that are the same but for their units: both are those of a file, and their texts are the same.
+-- Types that are the same but for their units: both are those of a file, and their texts are the
+-- same.
 use Rattle.std.proofs.Common.{◌≡◌, ℕ, zero, suc, negsuc, ◌*◌, ◌<◌, ◌≤◌, ℤ, pos, ◌<ℤ◌, ◌≤ℤ◌, unsigned_abs, List, [], ◌∷◌, ◌++◌, map, take, drop, length, decimal, arith, refl, ap, sym, subst, ◌∙◌}
 use Rattle.std.specs.Prelude.{codes}
 use Rattle.std.specs.Int.{is_negative}
@@ -41,7 +42,8 @@ same_back d e (suc n) [] (t ∷ ts) h = absurd h
 same_back d e (suc n) (s ∷ ss) [] h = absurd h
 same_back d e (suc n) (s ∷ ss) (t ∷ ts) h = same_back d e n ss ts h.1
 
-same_map : {A : Type 0} (d e : ℕ) (f : TypeEntry → A) (ss ts : List TypeEntry) → ((s t : TypeEntry) → IsSameEntry d e s t → f s ≡ f t) → AreSame d e ss ts → map f ss ≡ map f ts
+same_map : {A : Type 0} (d e : ℕ) (f : TypeEntry → A) (ss ts : List TypeEntry) →
+    ((s t : TypeEntry) → IsSameEntry d e s t → f s ≡ f t) → AreSame d e ss ts → map f ss ≡ map f ts
 same_map d e f [] [] here h = refl
 same_map d e f [] (t ∷ ts) here h = absurd h
 same_map d e f (s ∷ ss) [] here h = absurd h
@@ -53,7 +55,9 @@ same_length d e [] (t ∷ ts) h = absurd h
 same_length d e (s ∷ ss) [] h = absurd h
 same_length d e (s ∷ ss) (t ∷ ts) h = ap suc (same_length d e ss ts h.1)
 
-all_same : (d e : ℕ) (P Q : TypeEntry → Type 0) (ss ts : List TypeEntry) → ((s t : TypeEntry) → IsSameEntry d e s t → P s → Q t) → AreSame d e ss ts → AllByRecursion P ss → AllByRecursion Q ts
+all_same : (d e : ℕ) (P Q : TypeEntry → Type 0) (ss ts : List TypeEntry) →
+    ((s t : TypeEntry) → IsSameEntry d e s t → P s → Q t) → AreSame d e ss ts →
+    AllByRecursion P ss → AllByRecursion Q ts
 all_same d e P Q [] [] here h p = tt
 all_same d e P Q [] (t ∷ ts) here h p = absurd h
 all_same d e P Q (s ∷ ss) [] here h p = absurd h
@@ -115,21 +119,26 @@ types_same s t h above fits types =
       reflected = subst (λ n. AreDirections 0 n t.reflect) h.dims (subst (λ is. AreDirections 0 s.dims is) h.reflect types.reflected);
     }
 
-words_same : (form : Form) (d e : ℕ) (groups : List (List ℕ)) (s t : TypeEntry) (degree : List ℕ) → IsSameEntry d e s t → entry_words form groups s degree ≡ entry_words form groups t degree
+words_same : (form : Form) (d e : ℕ) (groups : List (List ℕ)) (s t : TypeEntry) (degree : List ℕ) →
+    IsSameEntry d e s t → entry_words form groups s degree ≡ entry_words form groups t degree
 words_same form d e groups s t degree h = by s.kind ∙ ap (λ kind. words_by kind form groups t degree) h.kind
   where
     by : (kind : Kind) → words_by kind form groups s degree ≡ words_by kind form groups t degree
     by Noise = rw (h.name, h.group) refl
     by Kernel = rw (h.name, h.moments) refl
 
-entry_text_same : (form : Form) (d e : ℕ) (groups : List (List ℕ)) (s t : TypeEntry) (text : List ℕ) → 0 < d → IsSameEntry d e s t → IsEntryText form d groups s text → IsEntryText form e groups t text
+entry_text_same : (form : Form) (d e : ℕ) (groups : List (List ℕ)) (s t : TypeEntry) (text : List ℕ) →
+    0 < d → IsSameEntry d e s t → IsEntryText form d groups s text →
+    IsEntryText form e groups t text
 entry_text_same form d e groups s t text above h told = (
   told.0,
   (told.1.0, told.1.1, lowest_same s.degree.a d t.degree.a e told.1.0 above h.a told.1.2, lowest_same s.degree.b d t.degree.b e told.1.1 above h.b told.1.3, told.1.4),
   told.2 ∙ ap (join_with_byte 32) (words_same form d e groups s t told.0 h),
 )
 
-entry_texts_same : (form : Form) (d e : ℕ) (groups : List (List ℕ)) (ss ts : List TypeEntry) (pieces : List (List ℕ)) → 0 < d → AreSame d e ss ts → AllZip (IsEntryText form d groups) ss pieces → AllZip (IsEntryText form e groups) ts pieces
+entry_texts_same : (form : Form) (d e : ℕ) (groups : List (List ℕ)) (ss ts : List TypeEntry) (pieces : List (List ℕ)) →
+    0 < d → AreSame d e ss ts → AllZip (IsEntryText form d groups) ss pieces →
+    AllZip (IsEntryText form e groups) ts pieces
 entry_texts_same form d e groups [] [] [] above h told = tt
 entry_texts_same form d e groups [] [] (p ∷ pieces) above h told = absurd told
 entry_texts_same form d e groups [] (t ∷ ts) pieces above h told = absurd h
@@ -154,7 +163,9 @@ back_same : (s t : Types) (is : List ℕ) → s.reflect ≡ t.reflect → reflec
 back_same s t [] reflect = refl
 back_same s t (i ∷ is) reflect = ap (λ x. x ∷ []) (reflect_same s t reflect)
 
-pieces_same : (form : Form) (s t : Types) (entries : List (List ℕ)) → s.dims ≡ t.dims → s.scaling ≡ t.scaling → s.reflect ≡ t.reflect → pieces_in form s entries ≡ pieces_in form t entries
+pieces_same : (form : Form) (s t : Types) (entries : List (List ℕ)) → s.dims ≡ t.dims →
+    s.scaling ≡ t.scaling → s.reflect ≡ t.reflect →
+    pieces_in form s entries ≡ pieces_in form t entries
 pieces_same New s t entries dims scaling reflect =
     ap (λ x. codes "context 2" ∷ x ∷ reflect_text s ∷ (entries ++ [])) (scaling_same s t dims scaling) ∙ ap (λ x. codes "context 2" ∷ scaling_text t ∷ x ∷ (entries ++ [])) (reflect_same s t reflect)
 pieces_same Old s t entries dims scaling reflect =
@@ -174,7 +185,9 @@ degree_text_one d den text other above h k =
     let b = lowest_form d.b den h.1 k.1 above h.3 k.3 in
     h.4 ∙ ap (λ f. degree_text f h.1) a ∙ ap (λ g. degree_text k.0 g) b ∙ sym k.4
 
-entry_texts_one : (form : Form) (den : ℕ) (groups : List (List ℕ)) (es : List TypeEntry) (ps qs : List (List ℕ)) → 0 < den → AllZip (IsEntryText form den groups) es ps → AllZip (IsEntryText form den groups) es qs → ps ≡ qs
+entry_texts_one : (form : Form) (den : ℕ) (groups : List (List ℕ)) (es : List TypeEntry) (ps qs : List (List ℕ)) →
+    0 < den → AllZip (IsEntryText form den groups) es ps →
+    AllZip (IsEntryText form den groups) es qs → ps ≡ qs
 entry_texts_one form den groups [] [] [] above h k = refl
 entry_texts_one form den groups [] [] (q ∷ qs) above h k = absurd k
 entry_texts_one form den groups [] (p ∷ ps) qs above h k = absurd h

@@ -24,7 +24,9 @@ same_number x n rest part e f = ap front (e ∙ f)
     front (Some r) = r.0
 
 -- the part at a place is the number there
-pub part_at : {A : Type 0} (f : A → List ℕ) (most : ℕ) (parts : List A) (entries : List ℕ) (i : ℕ) (d : A) → i < length parts → map f parts ≡ map decimal entries → AllByRecursion (λ n. n ≤ most) entries → (f (get_or parts i d) ≡ decimal (slice_index entries i)) × (slice_index entries i ≤ most)
+pub part_at : {A : Type 0} (f : A → List ℕ) (most : ℕ) (parts : List A) (entries : List ℕ) (i : ℕ) (d : A) →
+    i < length parts → map f parts ≡ map decimal entries → AllByRecursion (λ n. n ≤ most) entries →
+    (f (get_or parts i d) ≡ decimal (slice_index entries i)) × (slice_index entries i ≤ most)
 part_at f most [] entries i d lt same few = absurd (omega (arith, lt))
 part_at f most (p ∷ parts) [] i d lt same few = absurd cc
 part_at f most (p ∷ parts) (e ∷ entries) zero d lt same few = let here : f p ≡ decimal e = cc in (here, few.0)
@@ -51,14 +53,16 @@ five_are (a ∷ b ∷ c ∷ d ∷ []) five = absurd (omega (arith, five))
 five_are (a ∷ b ∷ c ∷ d ∷ e ∷ x ∷ xs) five = absurd (omega (arith, five))
 
 -- a scaling is determined by its entries
-pub scaling_back : (dims : ℕ) (s : List ℕ) → IsScaling dims s → slice_index (take dims s) 0 ∷ slice_index (take dims s) 1 ∷ slice_index (take dims s) 2 ∷ slice_index (take dims s) 3 ∷ slice_index (take dims s) 4 ∷ [] ≡ s
+pub scaling_back : (dims : ℕ) (s : List ℕ) → IsScaling dims s →
+    slice_index (take dims s) 0 ∷ slice_index (take dims s) 1 ∷ slice_index (take dims s) 2 ∷ slice_index (take dims s) 3 ∷ slice_index (take dims s) 4 ∷ [] ≡ s
 scaling_back dims s h =
     rw (index_taken dims s 0 h.rest, index_taken dims s 1 h.rest, index_taken dims s 2 h.rest, index_taken dims s 3 h.rest, index_taken dims s 4 h.rest) (five_are s h.entries)
 
 pub entries_small : (dims : ℕ) (s : List ℕ) → IsScaling dims s → AllByRecursion (λ n. n ≤ 10) (take dims s)
 entries_small dims s h = all_weaker (λ n. (0 < n) × (n ≤ 10)) (λ n. n ≤ 10) (take dims s) (λ n p. p.1) h.within
 
-pub parts_long : {A : Type 0} (f : A → List ℕ) (parts : List A) (dims : ℕ) (s : List ℕ) → IsScaling dims s → map f parts ≡ map decimal (take dims s) → length parts ≡ dims
+pub parts_long : {A : Type 0} (f : A → List ℕ) (parts : List A) (dims : ℕ) (s : List ℕ) →
+    IsScaling dims s → map f parts ≡ map decimal (take dims s) → length parts ≡ dims
 parts_long f parts dims s h same =
     sym (length-map parts f) ∙ ap length same ∙ length-map (take dims s) decimal ∙ length-take dims s ∙ omega (arith, h.most, h.entries)
 
@@ -76,19 +80,27 @@ scaling_lacks : (dims : ℕ) (s : List ℕ) → IsScaling dims s → Lacks 32 (j
 scaling_lacks dims s h = lacks_join 32 44 (map decimal (take dims s)) refl (entries_lack 32 dims s refl h)
 
 -- the words of the first piece
-pub scaling_words : (ty : Types) → IsScaling ty.dims ty.scaling → slice_split (λ b. b == 32) (scaling_text ty) ≡ codes "scaling" ∷ join_with_byte 44 (map decimal (take ty.dims ty.scaling)) ∷ []
+pub scaling_words : (ty : Types) → IsScaling ty.dims ty.scaling →
+    slice_split (λ b. b == 32) (scaling_text ty) ≡ codes "scaling" ∷ join_with_byte 44 (map decimal (take ty.dims ty.scaling)) ∷ []
 scaling_words ty h = split_join 32 (codes "scaling") (join_with_byte 44 (map decimal (take ty.dims ty.scaling)) ∷ []) refl (refl, (refl, (refl, (refl, (refl, (refl, (refl, tt))))))) (scaling_lacks ty.dims ty.scaling h, tt)
 
 -- and its entries
-pub scaling_entries : (dims : ℕ) (s : List ℕ) → IsScaling dims s → slice_split (λ b. b == 44) (join_with_byte 44 (map decimal (take dims s))) ≡ map decimal (take dims s)
+pub scaling_entries : (dims : ℕ) (s : List ℕ) → IsScaling dims s →
+    slice_split (λ b. b == 44) (join_with_byte 44 (map decimal (take dims s))) ≡ map decimal (take dims s)
 scaling_entries (suc dims) (x ∷ s) h = let all = entries_lack 44 (suc dims) (x ∷ s) refl h in split_join 44 (decimal x) (map decimal (take dims s)) refl all.0 all.1
 scaling_entries zero s h = absurd (omega (arith, h.some))
 scaling_entries (suc dims) [] h = absurd (omega (arith, h.entries))
 
-pub entries_found : {A : Type 0} (f : A → List ℕ) (ty : Types) (head : List ℕ) (items slice : List A) (r : Option (List ℕ)) → IsScaling ty.dims ty.scaling → head ≡ scaling_text ty → map f items ≡ slice_split (λ b. b == 32) head → slice ≡ items → r ≡ second_of (map f slice) → r ≡ Some (join_with_byte 44 (map decimal (take ty.dims ty.scaling)))
+pub entries_found : {A : Type 0} (f : A → List ℕ) (ty : Types) (head : List ℕ) (items slice : List A) (r : Option (List ℕ)) →
+    IsScaling ty.dims ty.scaling → head ≡ scaling_text ty →
+    map f items ≡ slice_split (λ b. b == 32) head → slice ≡ items → r ≡ second_of (map f slice) →
+    r ≡ Some (join_with_byte 44 (map decimal (take ty.dims ty.scaling)))
 entries_found f ty head items slice r h is cut same told = told ∙ ap second_of (ap (map f) same ∙ cut ∙ ap (slice_split (λ b. b == 32)) is ∙ scaling_words ty h)
 
-pub parts_found : {A : Type 0} (f : A → List ℕ) (dims : ℕ) (s entries : List ℕ) (items slice : List A) → IsScaling dims s → entries ≡ join_with_byte 44 (map decimal (take dims s)) → map f items ≡ slice_split (λ b. b == 44) entries → slice ≡ items → map f slice ≡ map decimal (take dims s)
+pub parts_found : {A : Type 0} (f : A → List ℕ) (dims : ℕ) (s entries : List ℕ) (items slice : List A) →
+    IsScaling dims s → entries ≡ join_with_byte 44 (map decimal (take dims s)) →
+    map f items ≡ slice_split (λ b. b == 44) entries → slice ≡ items →
+    map f slice ≡ map decimal (take dims s)
 parts_found f dims s entries items slice h is cut same = ap (map f) same ∙ cut ∙ ap (slice_split (λ b. b == 44)) is ∙ scaling_entries dims s h
 
 pub entries_are : {xs ys : List ℕ} → Some xs ≡ Some ys → xs ≡ ys

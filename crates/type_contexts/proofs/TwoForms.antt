@@ -11,7 +11,9 @@ use Rattle.type_contexts.proofs.OneText.{types_one}
 use Rattle.type_contexts.proofs.SameNumbers.{size_above}
 use Rattle.type_contexts.proofs.SameTypes.{text_one, text_same}
 
-pub old_apart : (s t : Types) (text other old old_other : List ℕ) → AreTypes s → AreTypes t → IsContextText s text → IsContextText t other → IsOldContextText s old → IsOldContextText t old_other → old ≢ old_other → text ≢ other
+pub old_apart : (s t : Types) (text other old old_other : List ℕ) → AreTypes s → AreTypes t →
+    IsContextText s text → IsContextText t other → IsOldContextText s old →
+    IsOldContextText t old_other → old ≢ old_other → text ≢ other
 old_apart s t text other old old_other s_types t_types h k old_h old_k differ same =
     let types = types_one New s t other s_types t_types (subst (IsTextIn New s) same h) k in
     let told = text_same Old s t old (size_above s.units.den s_types.den_above) types old_h in

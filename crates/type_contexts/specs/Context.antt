@@ -1,14 +1,22 @@
 -- The context of an equation: the text of its types, under which constants are kept.
 --   name_at groups g == the name of group g
+--   noise_words groups e degree == `noise`, the name of a noise, its degree and its group
 --   moments_text moments == the moment number, or `-` where none is declared
---   moments_words form moments == the words of a moment number behind a kernel: in the new form its text, in the old form `moments` and the number, or none
---   entry_words form groups e degree == the words that are written of a type: `noise`, its name, its degree and its group, or `kernel`, its name, its degree and its moments
---   IsEntryText form den groups e text == text is the words of the type e, joined by spaces; its degree is in units of one over den
+--   moments_words form moments == the words of a moment number behind a kernel: in the new form its
+--       text, in the old form `moments` and the number, or none
+--   kernel_words form e degree == `kernel`, the name of a kernel, its degree and its moments
+--   words_by kind form groups e degree == the one or the other, by the kind
+--   entry_words form groups e degree == the words that are written of a type
+--   IsEntryText form den groups e text == text is the words of the type e, joined by spaces; its
+--       degree is in units of one over den
 --   scaling_text ty == `scaling`, a space, and the entries of the scaling, joined by commas
 --   directions_text is == the directions, joined by commas, or `-` where there are none
 --   reflect_text ty == `reflect`, a space, and the directions that may be reflected
---   front_pieces form ty == what stands before the types: in the new form `context 2`, the scaling and the reflections, in the old form the scaling
---   back_pieces form ty == what stands behind them: in the old form the reflections, where there are any
+--   front_pieces form ty == what stands before the types: in the new form `context 2`, the scaling
+--       and the reflections, in the old form the scaling
+--   reflect_pieces is ty == the reflections as a piece, where the directions `is` are not none
+--   back_pieces form ty == what stands behind them: in the old form the reflections, where there
+--       are any
 --   pieces_in form ty entries == these, with the texts of the types between them
 --   IsTextIn form ty text == text is made of these pieces, joined by bars
 --   IsContextText, IsOldContextText ty text == so it is in the new form, and in the old one
@@ -48,10 +56,12 @@ abbrev pub entry_words : Form → List (List ℕ) → TypeEntry → List ℕ →
 entry_words form groups e degree = words_by e.kind form groups e degree
 
 abbrev pub IsEntryText : Form → ℕ → List (List ℕ) → TypeEntry → List ℕ → Type 0
-IsEntryText form den groups e text = (degree : List ℕ) × IsDegreeText e.degree den degree × (text ≡ join_with_byte 32 (entry_words form groups e degree))
+IsEntryText form den groups e text = (degree : List ℕ) × IsDegreeText e.degree den degree
+    × (text ≡ join_with_byte 32 (entry_words form groups e degree))
 
 abbrev pub scaling_text : Types → List ℕ
-scaling_text ty = join_with_byte 32 (codes "scaling" ∷ join_with_byte 44 (map decimal (take ty.dims ty.scaling)) ∷ [])
+scaling_text ty = join_with_byte 32 (codes "scaling" ∷ join_with_byte 44
+    (map decimal (take ty.dims ty.scaling)) ∷ [])
 
 abbrev pub directions_text : List ℕ → List ℕ
 directions_text [] = codes "-"
@@ -77,7 +87,8 @@ pieces_in form ty entries = front_pieces form ty ++ (entries ++ back_pieces form
 
 abbrev pub IsTextIn : Form → Types → List ℕ → Type 0
 IsTextIn form ty text =
-    (entries : List (List ℕ)) × AllZip (IsEntryText form (unsigned_abs ty.units.den) ty.groups) ty.list entries × (text ≡ join_with_byte 124 (pieces_in form ty entries))
+    (entries : List (List ℕ)) × AllZip (IsEntryText form (unsigned_abs ty.units.den) ty.groups)
+    ty.list entries × (text ≡ join_with_byte 124 (pieces_in form ty entries))
 
 abbrev pub IsContextText : Types → List ℕ → Type 0
 IsContextText ty text = IsTextIn New ty text

@@ -1,4 +1,5 @@
 -- Different names, by a test.
+-- Working notions of the code and of proofs, which no contract of a public call names:
 --   begins_new names == no later name is the first one
 use Rattle.std.specs.Prelude.{ℕ, Bool, true, not, List, [], ◌∷◌}
 use Rattle.std.specs.List.{list_all}

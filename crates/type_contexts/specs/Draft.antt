@@ -1,10 +1,16 @@
 -- What is read of the pieces of a context, before the common denominator is known.
---   Words == whether they are those of a noise or of a kernel, a name, the text of a degree, the name of a group, and the text of a moment number; a kernel has no group, and
---     its name stands there; `-` stands where no moment number is written
---   words_of parts == the words of a type, in both forms of a context; the first tells a noise of a kernel where both may be
+-- Working notions of the code and of proofs, which no contract of a public call names:
+--   Words == whether they are those of a noise or of a kernel, a name, the text of a degree, the
+--       name of a group, and the text of a moment number; a kernel has no group, and its name
+--       stands there; `-` stands where no moment number is written
+--   words_by_kind is_noise name degree last == the words of a noise, whose group is the last one;
+--       of a kernel, whose moment number is the last one
+--   words_of parts == the words of a type, in both forms of a context; the first tells a noise of a
+--       kernel where both may be
 --   piece_words piece == those of a piece, which is cut at its spaces
 --   seen w == what the words that the code keeps mean
---   IsGood w == the words are names, a degree in which no number passes 1,000,000, and the text of a moment number
+--   IsGood w == the words are names, a degree in which no number passes 1,000,000
+--       (`LARGEST_NUMBER`), and the text of a moment number
 --   IsDraftOf w d == d is what the words say
 --   IsGoodPiece piece == the piece has such words
 --   IsPieceDraft piece d == the piece has words, and d is what they say
@@ -29,13 +35,17 @@ pub record Words : Type 0 where
   pub moments : List ℕ
 
 abbrev pub words_by_kind : Bool → List ℕ → List ℕ → List ℕ → Words
-words_by_kind true name degree last = record { kind = Noise; name = name; degree = degree; group = last; moments = codes "-" }
-words_by_kind false name degree last = record { kind = Kernel; name = name; degree = degree; group = name; moments = last }
+words_by_kind true name degree last =
+    record { kind = Noise; name = name; degree = degree; group = last; moments = codes "-" }
+words_by_kind false name degree last =
+    record { kind = Kernel; name = name; degree = degree; group = name; moments = last }
 
 abbrev pub words_of : List (List ℕ) → Option Words
 words_of (word ∷ name ∷ degree ∷ []) = Some (words_by_kind false name degree (codes "-"))
-words_of (word ∷ name ∷ degree ∷ last ∷ []) = Some (words_by_kind (bytes_eq word (codes "noise")) name degree last)
-words_of (word ∷ name ∷ degree ∷ moments ∷ number ∷ []) = Some (words_by_kind false name degree number)
+words_of (word ∷ name ∷ degree ∷ last ∷ []) =
+    Some (words_by_kind (bytes_eq word (codes "noise")) name degree last)
+words_of (word ∷ name ∷ degree ∷ moments ∷ number ∷ []) =
+    Some (words_by_kind false name degree number)
 words_of [] = None
 words_of (word ∷ []) = None
 words_of (word ∷ name ∷ []) = None
@@ -45,7 +55,13 @@ abbrev pub piece_words : List ℕ → Option Words
 piece_words piece = words_of (slice_split (λ b. b == 32) piece)
 
 abbrev pub seen : KeptWords → Words
-seen w = record { kind = w.kind; name = w.name.now; degree = w.degree.now; group = w.group.now; moments = w.moments.now }
+seen w = record {
+  kind = w.kind;
+  name = w.name.now;
+  degree = w.degree.now;
+  group = w.group.now;
+  moments = w.moments.now;
+}
 
 pub record IsGood (w : Words) : Type 0 where
   pub name : is_name w.name ≡ true

@@ -1,10 +1,18 @@
 -- The types that are read: group names with their numbers, and degrees in units.
---   place_of names name == the place of the name in the list, from 0; the length of the list where it is not there
+-- Working notions of the code and of proofs, which no contract of a public call names:
+--   place_of names name == the place of the name in the list, from 0; the length of the list where
+--       it is not there
 --   stands_in names name == the name is there
---   with_group groups d == the groups, and behind them the group of d where it is a noise's that is not there
+--   with_name kind groups name == the groups, and the name behind them where it is a noise's that
+--       is not there
+--   with_group groups d == the groups, and behind them the group of d where it is a noise's that is
+--       not there
 --   groups_of drafts == the groups, in the order of their first noise
+--   number_by kind groups name == the number of a noise's group; 0 for a kernel
 --   IsEntryOf den groups d e == e is the type that is read as d, in units of one over den
---   AreMadeOf dims scaling reflect drafts ty == ty are the types that are read as drafts, with this scaling and these directions, in units of one over the least common denominator of the degrees
+--   AreMadeOf dims scaling reflect drafts ty == ty are the types that are read as drafts, with this
+--       scaling and these directions, in units of one over the least common denominator of the
+--       degrees
 use Rattle.std.specs.Prelude.{◌≡◌, ℕ, nat_lt, Bool, not, List, [], ◌∷◌, ◌++◌, length, if◌then◌else◌, fold, map, ℤ, ◌*ℤ◌}
 use Rattle.std.specs.List.{AllZip, prefix_len}
 use Rattle.std.specs.Str.{bytes_eq}
@@ -43,7 +51,8 @@ pub record IsEntryOf (den : ℤ) (groups : List (List ℕ)) (d : Draft) (e : Typ
   pub a : e.degree.a *ℤ d.degree.a_den ≡ d.degree.a_num *ℤ den
   pub b : e.degree.b *ℤ d.degree.b_den ≡ d.degree.b_num *ℤ den
 
-pub record AreMadeOf (dims : ℕ) (scaling reflect : List ℕ) (drafts : List Draft) (ty : Types) : Type 0 where
+pub record AreMadeOf (dims : ℕ) (scaling reflect : List ℕ) (drafts : List Draft)
+    (ty : Types) : Type 0 where
   pub dims_are : ty.dims ≡ dims
   pub scaling_is : ty.scaling ≡ scaling
   pub reflect_is : ty.reflect ≡ reflect

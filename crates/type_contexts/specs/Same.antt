@@ -1,7 +1,9 @@
 -- Types in different common denominators.
 --   IsSameFraction x d y e == x over d and y over e are the same number
---   IsSameEntry d e s t == the types s and t, in units of one over d and of one over e, are the same, their degrees as numbers
---   AreSameTypes s t == s and t are the same in every field but the units and the degrees, which are the same as numbers
+--   IsSameEntry d e s t == the types s and t, in units of one over d and of one over e, are the
+--       same, their degrees as numbers
+--   AreSameTypes s t == s and t are the same in every field but the units and the degrees, which
+--       are the same as numbers
 --   degree_fractions den es == the fractions of the degrees
 --   AreInLeastUnits ty == the units are the least common denominator of the degrees
 use Rattle.std.specs.Prelude.{◌≡◌, ℕ, ◌*◌, ℤ, unsigned_abs, List, [], ◌∷◌}
@@ -27,13 +29,16 @@ pub record IsSameEntry (d e : ℕ) (s t : TypeEntry) : Type 0 where
 pub record AreSameTypes (s t : Types) : Type 0 where
   pub dims : s.dims ≡ t.dims
   pub scaling : s.scaling ≡ t.scaling
-  pub list : AllZip (IsSameEntry (unsigned_abs s.units.den) (unsigned_abs t.units.den)) s.list t.list
+  pub list : AllZip (IsSameEntry (unsigned_abs s.units.den) (unsigned_abs t.units.den)) s.list
+      t.list
   pub groups : s.groups ≡ t.groups
   pub reflect : s.reflect ≡ t.reflect
 
 abbrev pub degree_fractions : ℤ → List TypeEntry → List Fraction
 degree_fractions den [] = []
-degree_fractions den (e ∷ es) = fraction_of e.degree.a den ∷ fraction_of e.degree.b den ∷ degree_fractions den es
+degree_fractions den (e ∷ es) =
+    fraction_of e.degree.a den ∷ fraction_of e.degree.b den ∷ degree_fractions den es
 
 abbrev pub AreInLeastUnits : Types → Type 0
-AreInLeastUnits ty = IsLeastCommon (unsigned_abs ty.units.den) (degree_fractions ty.units.den ty.list)
+AreInLeastUnits ty =
+    IsLeastCommon (unsigned_abs ty.units.den) (degree_fractions ty.units.den ty.list)

@@ -1,4 +1,5 @@
 -- The words of the first piece of a context.
+-- Working notions of the code and of proofs, which no contract of a public call names:
 --   second_of words == the second of two words
 use Rattle.std.specs.Prelude.{ℕ, List, [], ◌∷◌, Option, Some, None}
 

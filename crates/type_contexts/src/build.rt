@@ -106,8 +106,9 @@ fn entries_of(
     Ok(entries)
 }
 
-/// The types that are read, with this scaling and these directions that may be reflected, in units of one over the least common denominator of their degrees. Refusal: `ContextText` only where that passes
-/// 1,000,000.
+/// The types that are read, with this scaling and these directions that may be reflected, in units
+/// of one over the least common denominator of their degrees. Refusal: `ContextText` only where
+/// that passes 1,000,000 (`LARGEST_NUMBER`).
 pub fn types_of(
     alloc: Global,
     dims: u8,
@@ -117,7 +118,8 @@ pub fn types_of(
 ) -> Result<Types, ContextRefusal>
     requires { length drafts.now ≤ 255 }
     ensures ok { IfOk result (λ ty. AreMadeOf dims scaling reflect drafts.now ty) }
-    ensures err { IfErr result (λ e. e ≡ ContextText → IsPast (fractions (map (λ d. d.degree) drafts.now))) }
+    ensures err { IfErr result (λ e. e ≡ ContextText →
+        IsPast (fractions (map (λ d. d.degree) drafts.now))) }
 {
     let degrees = degrees_of(alloc, drafts)?;
     let Ok(units) = join_units(degrees.as_slice()) else {

@@ -20,7 +20,8 @@ pub fn parts_of(alloc: Global, mark: u8, text: &[u8]) -> Result<Vec<&[u8]>, Allo
     text.split(|b| *b == mark).collect(alloc)
 }
 
-/// The words that are written of a type. A kernel has no group, and its name stands there; `-` stands where no moment number is written.
+/// The words that are written of a type. A kernel has no group, and its name stands there; `-`
+/// stands where no moment number is written.
 #[derive(Clone, Copy, Debug)]
 pub struct Words<'a> {
     pub kind: Kind,
@@ -121,7 +122,8 @@ fn piece_draft(alloc: Global, piece: &[u8]) -> Result<Draft, ContextRefusal>
 /// What is read of the pieces of a context behind the first.
 pub fn drafts_of(alloc: Global, pieces: &[&[u8]]) -> Result<Vec<Draft>, ContextRefusal>
     ensures ok { IfOk result (λ v. AllZip (λ s d. IsPieceDraft s.now d) pieces.now v.items) }
-    ensures err { IfErr result (λ e. e ≡ ContextText → AllByRecursion IsGoodPiece (map (λ s. s.now) pieces.now) → ⊥) }
+    ensures err { IfErr result (λ e. e ≡ ContextText →
+        AllByRecursion IsGoodPiece (map (λ s. s.now) pieces.now) → ⊥) }
 {
     let mut drafts = Vec::new(alloc);
     for piece in pieces {

@@ -54,7 +54,8 @@ fn lowest_numerator(size: u64, den: u64) -> u64
     size / (den / lowest_den)
 }
 
-// Whether a fraction of this size is written with whole numbers up to 1,000,000, and is at most 20.
+// Whether a fraction of this size is written with whole numbers up to 1,000,000 (`LARGEST_NUMBER`),
+// and is at most 20.
 fn is_writable(den: u64, size: u64) -> bool
     requires above { 0 < den }
     requires fits { den ≤ 1000000 }
@@ -135,7 +136,9 @@ fn are_kernel_entries(den: u64, entries: &[TypeEntry]) -> bool
 // How many groups are met with one more noise; none where its group leaves out the next one.
 fn next_met(met: usize, group: usize) -> Option<usize>
     requires { met < 2 ^ 63 }
-    ensures value { (gs : List ℕ) (all : ℕ) → MatchOption result (¬ AreInOrder met (group ∷ gs) all) (λ m. AreInOrder met (group ∷ gs) all ↔ AreInOrder m gs all) }
+    ensures value { (gs : List ℕ) (all : ℕ) →
+        MatchOption result (¬ AreInOrder met (group ∷ gs) all) (λ m. AreInOrder met (group ∷ gs) all
+        ↔ AreInOrder m gs all) }
     ensures few { IfSome result (λ m. m ≤ met + 1) }
 {
     if group > met {
@@ -223,13 +226,15 @@ fn are_few(noises: usize, kernels: usize) -> bool
 fn are_entries(den: u64, noises: &[TypeEntry], kernels: &[TypeEntry]) -> bool
     requires above { 0 < den }
     requires fits { den ≤ 1000000 }
-    ensures { IsTrue result ↔ AllByRecursion (IsNoiseEntry den) noises.now × AllByRecursion (IsKernelEntry den) kernels.now }
+    ensures { IsTrue result ↔ AllByRecursion (IsNoiseEntry den) noises.now
+        × AllByRecursion (IsKernelEntry den) kernels.now }
 {
     are_noise_entries(den, noises) && are_kernel_entries(den, kernels)
 }
 
 fn are_grouped(noises: &[TypeEntry], groups: &[Name]) -> bool
-    ensures { IsTrue result ↔ AreNames groups.now × AreInOrder 0 (map (λ e. e.group) noises.now) (length groups.now) }
+    ensures { IsTrue result ↔ AreNames groups.now
+        × AreInOrder 0 (map (λ e. e.group) noises.now) (length groups.now) }
 {
     are_names(groups) && are_in_order(noises, groups.len())
 }
@@ -248,7 +253,8 @@ fn are_directions(dims: u8, directions: &[u8]) -> bool
     true
 }
 
-/// Whether these are the types of some equation file that is accepted with all its limits. Fails only for want of memory.
+/// Whether these are the types of some equation file that is accepted with all its limits. Fails
+/// only for want of memory.
 pub fn are_file_types(alloc: Global, types: &Types) -> Result<bool, AllocError>
     ensures { IfOk result (λ holds. IsTrue holds ↔ AreTypes types.now) }
 {

@@ -36,7 +36,8 @@ fn entry_count(rest: &[&[u8]]) -> usize
 
 // The piece at a place; that of no directions behind the last one.
 fn reflect_at<'a>(rest: &[&'a [u8]], place: usize) -> &'a [u8]
-    ensures { result.now ≡ unwrap_or (option_map (λ s. s.now) (slice_get rest.now place)) (codes "reflect -") }
+    ensures { result.now ≡ unwrap_or (option_map (λ s. s.now) (slice_get rest.now place))
+        (codes "reflect -") }
 {
     match rest.get(place) {
         Some(piece) => *piece,
@@ -44,7 +45,8 @@ fn reflect_at<'a>(rest: &[&'a [u8]], place: usize) -> &'a [u8]
     }
 }
 
-// The entries, up to a piece with the directions that may be reflected, which is left out where there are none.
+// The entries, up to a piece with the directions that may be reflected, which is left out where
+// there are none.
 fn old_parts<'a>(scaling: &'a [u8], rest: &'a [&'a [u8]]) -> Parts<'a>
     ensures { seen_parts result ≡ old_parts scaling.now (map (λ s. s.now) rest.now) }
 {

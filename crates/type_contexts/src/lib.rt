@@ -1,4 +1,5 @@
-//! The types of an equation as a text, under which constants are kept: printed, and read back.
+//! The types of an equation as a text, under which constants are kept: printed, and read back. A
+//! store reads it without an equation file, so it stands apart from these.
 #![tactic(auto)]
 
 mod build;

@@ -18,7 +18,8 @@ fn put_number(out: &mut Vec<u8>, n: u32) -> Result<(), AllocError>
 
 // Each behind a comma.
 fn put_further(out: &mut Vec<u8>, entries: &[u32]) -> Result<(), AllocError>
-    ensures { OnOk result (out.new.items ≡ join_with_byte 44 (out.old.items ∷ map decimal entries.now)) }
+    ensures { OnOk result (out.new.items
+        ≡ join_with_byte 44 (out.old.items ∷ map decimal entries.now)) }
 {
     for entry in entries {
         out.push(b',')?;
@@ -28,7 +29,8 @@ fn put_further(out: &mut Vec<u8>, entries: &[u32]) -> Result<(), AllocError>
 }
 
 fn put_listed(out: &mut Vec<u8>, entries: &[u32]) -> Result<(), AllocError>
-    ensures { OnOk result (out.new.items ≡ out.old.items ++ join_with_byte 44 (map decimal entries.now)) }
+    ensures { OnOk result (out.new.items ≡ out.old.items
+        ++ join_with_byte 44 (map decimal entries.now)) }
 {
     match entries {
         [] => Ok(()),
@@ -42,7 +44,8 @@ fn put_listed(out: &mut Vec<u8>, entries: &[u32]) -> Result<(), AllocError>
 fn put_degree(out: &mut Vec<u8>, degree: Degree, units: Units) -> Result<(), AllocError>
     requires above { pos 0 <ℤ units.den }
     requires fits { units.den ≤ℤ pos 1000000 }
-    ensures { OnOk result ((text : List ℕ) × IsDegreeText degree (unsigned_abs units.den) text × (out.new.items ≡ out.old.items ++ text)) }
+    ensures { OnOk result ((text : List ℕ) × IsDegreeText degree (unsigned_abs units.den) text
+        × (out.new.items ≡ out.old.items ++ text)) }
 {
     let mut text = SmallText::new();
     print_degree(degree, units, &mut text);
@@ -66,7 +69,10 @@ fn put_noise(
 ) -> Result<(), AllocError>
     requires above { pos 0 <ℤ units.den }
     requires fits { units.den ≤ℤ pos 1000000 }
-    ensures { OnOk result ((degree : List ℕ) × IsDegreeText entry.now.degree (unsigned_abs units.den) degree × (out.new.items ≡ out.old.items ++ join_with_byte 32 (noise_words groups.now entry.now degree))) }
+    ensures { OnOk result ((degree : List ℕ)
+        × IsDegreeText entry.now.degree (unsigned_abs units.den) degree
+        × (out.new.items ≡ out.old.items
+        ++ join_with_byte 32 (noise_words groups.now entry.now degree))) }
 {
     out.extend_from_slice(b"noise ")?;
     out.extend_from_slice(entry.name.bytes())?;
@@ -87,7 +93,8 @@ fn put_moments(out: &mut Vec<u8>, moments: Option<u8>) -> Result<(), AllocError>
 
 // Each behind a space.
 fn put_moments_words(out: &mut Vec<u8>, form: Form, moments: Option<u8>) -> Result<(), AllocError>
-    ensures { OnOk result (out.new.items ≡ join_with_byte 32 (out.old.items ∷ moments_words form moments)) }
+    ensures { OnOk result (out.new.items
+        ≡ join_with_byte 32 (out.old.items ∷ moments_words form moments)) }
 {
     match (form, moments) {
         (Form::New, _) => {
@@ -110,7 +117,10 @@ fn put_kernel(
 ) -> Result<(), AllocError>
     requires above { pos 0 <ℤ units.den }
     requires fits { units.den ≤ℤ pos 1000000 }
-    ensures { OnOk result ((degree : List ℕ) × IsDegreeText entry.now.degree (unsigned_abs units.den) degree × (out.new.items ≡ out.old.items ++ join_with_byte 32 (kernel_words form entry.now degree))) }
+    ensures { OnOk result ((degree : List ℕ)
+        × IsDegreeText entry.now.degree (unsigned_abs units.den) degree
+        × (out.new.items ≡ out.old.items
+        ++ join_with_byte 32 (kernel_words form entry.now degree))) }
 {
     out.extend_from_slice(b"kernel ")?;
     out.extend_from_slice(entry.name.bytes())?;
@@ -128,7 +138,9 @@ fn put_entry(
 ) -> Result<(), AllocError>
     requires above { pos 0 <ℤ units.den }
     requires fits { units.den ≤ℤ pos 1000000 }
-    ensures { OnOk result ((text : List ℕ) × IsEntryText form (unsigned_abs units.den) groups.now entry.now text × (out.new.items ≡ out.old.items ++ text)) }
+    ensures { OnOk result ((text : List ℕ)
+        × IsEntryText form (unsigned_abs units.den) groups.now entry.now text
+        × (out.new.items ≡ out.old.items ++ text)) }
 {
     match entry.kind {
         Kind::Noise => put_noise(out, units, groups, entry),
@@ -154,7 +166,9 @@ fn put_entries(
 ) -> Result<(), AllocError>
     requires above { pos 0 <ℤ units.den }
     requires fits { units.den ≤ℤ pos 1000000 }
-    ensures { OnOk result ((pieces : List (List ℕ)) × AllZip (IsEntryText form (unsigned_abs units.den) groups.now) entries.now pieces × (out.new.items ≡ join_with_byte 124 (out.old.items ∷ pieces))) }
+    ensures { OnOk result ((pieces : List (List ℕ))
+        × AllZip (IsEntryText form (unsigned_abs units.den) groups.now) entries.now pieces
+        × (out.new.items ≡ join_with_byte 124 (out.old.items ∷ pieces))) }
 {
     for entry in entries {
         out.push(b'|')?;
@@ -177,7 +191,8 @@ fn put_directions(out: &mut Vec<u8>, directions: &[u8]) -> Result<(), AllocError
 
 // Each behind a comma.
 fn put_further_directions(out: &mut Vec<u8>, directions: &[u8]) -> Result<(), AllocError>
-    ensures { OnOk result (out.new.items ≡ join_with_byte 44 (out.old.items ∷ map decimal directions.now)) }
+    ensures { OnOk result (out.new.items
+        ≡ join_with_byte 44 (out.old.items ∷ map decimal directions.now)) }
 {
     for direction in directions {
         out.push(b',')?;
@@ -196,7 +211,8 @@ fn put_reflect(out: &mut Vec<u8>, types: &Types) -> Result<(), AllocError>
 // What stands before the types.
 fn put_front(out: &mut Vec<u8>, form: Form, types: &Types) -> Result<(), AllocError>
     requires { types.now.dims ≤ 5 }
-    ensures { OnOk result (out.new.items ≡ out.old.items ++ join_with_byte 124 (front_pieces form types.now)) }
+    ensures { OnOk result (out.new.items ≡ out.old.items
+        ++ join_with_byte 124 (front_pieces form types.now)) }
 {
     match form {
         Form::New => {
@@ -211,7 +227,8 @@ fn put_front(out: &mut Vec<u8>, form: Form, types: &Types) -> Result<(), AllocEr
 
 // What stands behind the types, behind a bar.
 fn put_back(out: &mut Vec<u8>, form: Form, types: &Types) -> Result<(), AllocError>
-    ensures { OnOk result (out.new.items ≡ join_with_byte 124 (out.old.items ∷ back_pieces form types.now)) }
+    ensures { OnOk result (out.new.items
+        ≡ join_with_byte 124 (out.old.items ∷ back_pieces form types.now)) }
 {
     match (form, types.reflect.as_slice()) {
         (Form::Old, [_, ..]) => {
@@ -242,10 +259,14 @@ pub fn text_in(alloc: Global, form: Form, types: &Types) -> Result<Vec<u8>, Allo
     Ok(out)
 }
 
-/// The context of an equation with these types, under which constants are kept. It says what is declared and what is not: `context 2`, then `|scaling` with the entries of
-/// the scaling, `|reflect` with the directions that may be reflected or `-`, then `|noise NAME DEGREE GROUP` for each noise and `|kernel NAME DEGREE MOMENTS` for each
-/// kernel, in their order, with the moment number or `-`. Degrees are printed as fractions in lowest terms, so the text is the same in every common denominator. The types
-/// of `u_t - u_xx - u_yy = u*xi` give `context 2|scaling 2,1,1|reflect -|noise xi -1-k xi|kernel u 2 -`. Fails only for want of memory.
+/// The context of an equation with these types, under which constants are kept. It says what is
+/// declared and what is not: `context 2`, then `|scaling` with the entries of the scaling,
+/// `|reflect` with the directions that may be reflected or `-`, then `|noise NAME DEGREE GROUP` for
+/// each noise and `|kernel NAME DEGREE MOMENTS` for each kernel, in their order, with the moment
+/// number or `-`. Degrees are printed as fractions in lowest terms, so the text is the same in
+/// every common denominator. The types of `u_t - u_xx - u_yy = u*xi` give
+/// `context 2|scaling 2,1,1|reflect -|noise xi -1-k xi|kernel u 2 -`. Fails only for want of
+/// memory.
 pub fn context_text(alloc: Global, types: &Types) -> Result<Vec<u8>, AllocError>
     requires dims { types.now.dims ≤ 5 }
     requires above { pos 0 <ℤ types.now.units.den }
@@ -255,9 +276,11 @@ pub fn context_text(alloc: Global, types: &Types) -> Result<Vec<u8>, AllocError>
     text_in(alloc, Form::New, types)
 }
 
-/// The context in the old form, in which what is not declared is left out: `scaling` with its entries, `|noise NAME DEGREE GROUP` for each noise, `|kernel NAME DEGREE` for
-/// each kernel, followed by ` moments NUMBER` where one is declared, and last `|reflect` with the directions, where there are any. The types of
-/// `u_t - u_xx - u_yy = u*xi` give `scaling 2,1,1|noise xi -1-k xi|kernel u 2`. Fails only for want of memory.
+/// The context in the old form, in which what is not declared is left out: `scaling` with its
+/// entries, `|noise NAME DEGREE GROUP` for each noise, `|kernel NAME DEGREE` for each kernel,
+/// followed by ` moments NUMBER` where one is declared, and last `|reflect` with the directions,
+/// where there are any. The types of `u_t - u_xx - u_yy = u*xi` give
+/// `scaling 2,1,1|noise xi -1-k xi|kernel u 2`. Fails only for want of memory.
 pub fn old_context_text(alloc: Global, types: &Types) -> Result<Vec<u8>, AllocError>
     requires dims { types.now.dims ≤ 5 }
     requires above { pos 0 <ℤ types.now.units.den }

@@ -25,8 +25,10 @@ fn types_in(alloc: Global, parts: &Parts) -> Result<Types, ContextRefusal>
     ensures above { IfOk result (λ ty. pos 0 <ℤ ty.units.den) }
     ensures fits { IfOk result (λ ty. ty.units.den ≤ℤ pos 1000000) }
     ensures units { IfOk result AreInLeastUnits }
-    ensures same { (form : Form) (ty : Types) → AreTypes ty → ArePartsOf form ty (seen_parts parts.now) → IfOk result (AreSameTypes ty) }
-    ensures err { (form : Form) (ty : Types) → AreTypes ty → ArePartsOf form ty (seen_parts parts.now) → IfErr result (λ e. e ≡ Memory) }
+    ensures same { (form : Form) (ty : Types) → AreTypes ty →
+        ArePartsOf form ty (seen_parts parts.now) → IfOk result (AreSameTypes ty) }
+    ensures err { (form : Form) (ty : Types) → AreTypes ty →
+        ArePartsOf form ty (seen_parts parts.now) → IfErr result (λ e. e ≡ Memory) }
 {
     if parts.entries.len() > MOST_TYPES {
         return Err(ContextRefusal::ContextText);
@@ -49,7 +51,8 @@ fn has_text(alloc: Global, form: Form, types: &Types, text: &[u8]) -> Result<boo
 
 // Whether types are those of a file, and this is their text.
 fn have_text(alloc: Global, form: Form, types: &Types, text: &[u8]) -> Result<bool, AllocError>
-    ensures { IfOk result (λ holds. IsTrue holds ↔ AreTypes types.now × IsTextIn form types.now text.now) }
+    ensures { IfOk result (λ holds. IsTrue holds ↔ AreTypes types.now
+        × IsTextIn form types.now text.now) }
 {
     if are_file_types(alloc, types)? {
         has_text(alloc, form, types, text)
@@ -63,7 +66,8 @@ fn read_in(alloc: Global, form: Form, text: &[u8]) -> Result<Types, ContextRefus
     ensures types { IfOk result AreTypes }
     ensures units { IfOk result AreInLeastUnits }
     ensures text { IfOk result (λ ty. IsTextIn form ty text.now) }
-    ensures refused { IfErr result (λ e. e ≡ ContextText → (ty : Types) → AreTypes ty → IsTextIn form ty text.now → ⊥) }
+    ensures refused { IfErr result (λ e. e ≡ ContextText → (ty : Types) → AreTypes ty →
+        IsTextIn form ty text.now → ⊥) }
 {
     let pieces = parts_of(alloc, b'|', text)?;
     let Some(parts) = parts_in(form, pieces.as_slice()) else {
@@ -77,25 +81,28 @@ fn read_in(alloc: Global, form: Form, text: &[u8]) -> Result<Types, ContextRefus
     }
 }
 
-/// The types whose context this text is, in units of one over the least common denominator of their degrees. Refusal: `ContextText` exactly where the text is the
-/// context of no types that an accepted equation file has; so also where a fraction is not in lowest terms, a number passes 1,000,000, a degree passes 20, or groups
-/// are out of order.
+/// The types whose context this text is, in units of one over the least common denominator of their
+/// degrees. Refusal: `ContextText` exactly where the text is the context of no types that an
+/// accepted equation file has; so also where a fraction is not in lowest terms, a number passes
+/// 1,000,000 (`LARGEST_NUMBER`), a degree passes 20, or groups are out of order.
 pub fn read_context(alloc: Global, text: &[u8]) -> Result<Types, ContextRefusal>
     ensures types { IfOk result AreTypes }
     ensures units { IfOk result AreInLeastUnits }
     ensures text { IfOk result (λ ty. IsContextText ty text.now) }
-    ensures refused { IfErr result (λ e. e ≡ ContextText → (ty : Types) → AreTypes ty → IsContextText ty text.now → ⊥) }
+    ensures refused { IfErr result (λ e. e ≡ ContextText → (ty : Types) → AreTypes ty →
+        IsContextText ty text.now → ⊥) }
 {
     read_in(alloc, Form::New, text)
 }
 
-/// The types whose context in the old form this text is, in the same units. Refusal: `ContextText` exactly where the text is the old context of no types that an accepted
-/// equation file has.
+/// The types whose context in the old form this text is, in the same units. Refusal: `ContextText`
+/// exactly where the text is the old context of no types that an accepted equation file has.
 pub fn read_old_context(alloc: Global, text: &[u8]) -> Result<Types, ContextRefusal>
     ensures types { IfOk result AreTypes }
     ensures units { IfOk result AreInLeastUnits }
     ensures text { IfOk result (λ ty. IsOldContextText ty text.now) }
-    ensures refused { IfErr result (λ e. e ≡ ContextText → (ty : Types) → AreTypes ty → IsOldContextText ty text.now → ⊥) }
+    ensures refused { IfErr result (λ e. e ≡ ContextText → (ty : Types) → AreTypes ty →
+        IsOldContextText ty text.now → ⊥) }
 {
     read_in(alloc, Form::Old, text)
 }

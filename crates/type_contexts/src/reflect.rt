@@ -15,8 +15,10 @@ use std::alloc::Global;
 const MOST_DIMENSIONS: u32 = 5;
 
 fn numbers_of(alloc: Global, parts: &[&[u8]]) -> Result<Items<u8>, ContextRefusal>
-    ensures ok { (is : List ℕ) → map (λ s. s.now) parts.now ≡ map decimal is → AllByRecursion (λ n. n ≤ 5) is → IfOk result (λ v. v ≡ is) }
-    ensures err { (is : List ℕ) → map (λ s. s.now) parts.now ≡ map decimal is → AllByRecursion (λ n. n ≤ 5) is → IfErr result (λ e. e ≡ Memory) }
+    ensures ok { (is : List ℕ) → map (λ s. s.now) parts.now ≡ map decimal is →
+        AllByRecursion (λ n. n ≤ 5) is → IfOk result (λ v. v ≡ is) }
+    ensures err { (is : List ℕ) → map (λ s. s.now) parts.now ≡ map decimal is →
+        AllByRecursion (λ n. n ≤ 5) is → IfErr result (λ e. e ≡ Memory) }
 {
     let mut found = Items::new(alloc);
     for i in 0..parts.len() {
@@ -29,8 +31,10 @@ fn numbers_of(alloc: Global, parts: &[&[u8]]) -> Result<Items<u8>, ContextRefusa
 }
 
 fn directions_of(alloc: Global, text: &[u8]) -> Result<Items<u8>, ContextRefusal>
-    ensures ok { (is : List ℕ) → AllByRecursion (λ n. n ≤ 5) is → text.now ≡ directions_text is → IfOk result (λ v. v ≡ is) }
-    ensures err { (is : List ℕ) → AllByRecursion (λ n. n ≤ 5) is → text.now ≡ directions_text is → IfErr result (λ e. e ≡ Memory) }
+    ensures ok { (is : List ℕ) → AllByRecursion (λ n. n ≤ 5) is → text.now ≡ directions_text is →
+        IfOk result (λ v. v ≡ is) }
+    ensures err { (is : List ℕ) → AllByRecursion (λ n. n ≤ 5) is → text.now ≡ directions_text is →
+        IfErr result (λ e. e ≡ Memory) }
 {
     if text == b"-".as_slice() {
         return Ok(Items::new(alloc));
@@ -41,8 +45,10 @@ fn directions_of(alloc: Global, text: &[u8]) -> Result<Items<u8>, ContextRefusal
 
 /// The directions that may be reflected, which a piece of a context says.
 pub fn reflect_of(alloc: Global, piece: &[u8]) -> Result<Items<u8>, ContextRefusal>
-    ensures ok { (ty : Types) → AreTypes ty → piece.now ≡ reflect_text ty → IfOk result (λ v. v ≡ ty.reflect) }
-    ensures err { (ty : Types) → AreTypes ty → piece.now ≡ reflect_text ty → IfErr result (λ e. e ≡ Memory) }
+    ensures ok { (ty : Types) → AreTypes ty → piece.now ≡ reflect_text ty →
+        IfOk result (λ v. v ≡ ty.reflect) }
+    ensures err { (ty : Types) → AreTypes ty → piece.now ≡ reflect_text ty →
+        IfErr result (λ e. e ≡ Memory) }
 {
     let words = parts_of(alloc, b' ', piece)?;
     let Some(text) = second_of(words.as_slice()) else {

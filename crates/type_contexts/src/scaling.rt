@@ -30,7 +30,8 @@ pub fn number_up_to(most: u32, text: &[u8]) -> Option<u32>
 
 // The whole number of a part, and 0 behind the last part.
 fn entry_at(parts: &[&[u8]], i: usize) -> Option<u32>
-    ensures { (entries : List ℕ) → map (λ s. s.now) parts.now ≡ map decimal entries → AllByRecursion (λ n. n ≤ 10) entries → result ≡ Some (slice_index entries i) }
+    ensures { (entries : List ℕ) → map (λ s. s.now) parts.now ≡ map decimal entries →
+        AllByRecursion (λ n. n ≤ 10) entries → result ≡ Some (slice_index entries i) }
 {
     if i < parts.len() {
         number_up_to(LARGEST_SCALING, parts[i])
@@ -40,7 +41,10 @@ fn entry_at(parts: &[&[u8]], i: usize) -> Option<u32>
 }
 
 fn entries_of(parts: &[&[u8]]) -> Option<[u32; 5]>
-    ensures { (entries : List ℕ) → map (λ s. s.now) parts.now ≡ map decimal entries → AllByRecursion (λ n. n ≤ 10) entries → result ≡ Some (slice_index entries 0 ∷ slice_index entries 1 ∷ slice_index entries 2 ∷ slice_index entries 3 ∷ slice_index entries 4 ∷ []) }
+    ensures { (entries : List ℕ) → map (λ s. s.now) parts.now ≡ map decimal entries →
+        AllByRecursion (λ n. n ≤ 10) entries →
+        result ≡ Some (slice_index entries 0 ∷ slice_index entries 1 ∷ slice_index entries 2
+        ∷ slice_index entries 3 ∷ slice_index entries 4 ∷ []) }
 {
     Some([
         entry_at(parts, 0)?,
@@ -52,7 +56,9 @@ fn entries_of(parts: &[&[u8]]) -> Option<[u32; 5]>
 }
 
 fn directions_of(parts: &[&[u8]]) -> Option<(u8, [u32; 5])>
-    ensures { (dims : ℕ) (scaling : List ℕ) → IsScaling dims scaling → map (λ s. s.now) parts.now ≡ map decimal (take dims scaling) → result ≡ Some (dims, scaling) }
+    ensures { (dims : ℕ) (scaling : List ℕ) → IsScaling dims scaling →
+        map (λ s. s.now) parts.now ≡ map decimal (take dims scaling) →
+        result ≡ Some (dims, scaling) }
 {
     if parts.len() > MOST_DIMENSIONS {
         return None;
@@ -73,8 +79,10 @@ pub fn second_of<'a>(words: &[&'a [u8]]) -> Option<&'a [u8]>
 
 /// The number of directions and the scaling that the first piece of a context says.
 pub fn scaling_of(alloc: Global, head: &[u8]) -> Result<(u8, [u32; 5]), ContextRefusal>
-    ensures ok { (ty : Types) → IsScaling ty.dims ty.scaling → head.now ≡ scaling_text ty → IfOk result (λ r. r ≡ (ty.dims, ty.scaling)) }
-    ensures err { (ty : Types) → IsScaling ty.dims ty.scaling → head.now ≡ scaling_text ty → IfErr result (λ e. e ≡ Memory) }
+    ensures ok { (ty : Types) → IsScaling ty.dims ty.scaling → head.now ≡ scaling_text ty →
+        IfOk result (λ r. r ≡ (ty.dims, ty.scaling)) }
+    ensures err { (ty : Types) → IsScaling ty.dims ty.scaling → head.now ≡ scaling_text ty →
+        IfErr result (λ e. e ≡ Memory) }
 {
     let words = parts_of(alloc, b' ', head)?;
     let Some(entries) = second_of(words.as_slice()) else {

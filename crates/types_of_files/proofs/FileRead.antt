@@ -26,13 +26,31 @@ some_read s f (x ∷ xs) h = refl
 abbrev pub the_document : (TypeEntry → Written) → Written → Types → Document
 the_document w z ty = document_by w z ty.groups (take ty.dims ty.scaling) ty.reflect (map (λ e. e.name) (noises ty) ++ map (λ e. e.name) (kernels ty)) (noises ty) (kernels ty)
 
-document_read : (t : TypeEntry → List ℕ) (w : TypeEntry → Written) (zt : List ℕ) (z : Written) (ty : Types) → 0 < length (take ty.dims ty.scaling) → AllByRecursion (λ n. 0 < n) (take ty.dims ty.scaling) → AreDirections 0 (length (take ty.dims ty.scaling)) ty.reflect → 0 < length (kernels ty) → AllByRecursion (IsWrittenAs t w) (noises ty) → AllByRecursion (λ e. is_name (name_at ty.groups e.group) ≡ true) (noises ty) → AllByRecursion (IsWrittenAs t w) (kernels ty) → AllByRecursion (λ e. (is_positive (w e) ≡ true) × IsMoments e.moments) (kernels ty) → written_of zt ≡ Some z → is_standard z ≡ true → AreDifferent (map (λ e. e.name) (noises ty) ++ map (λ e. e.name) (kernels ty)) → document_of (file_of t zt ty) ≡ Ok (the_document w z ty)
+document_read : (t : TypeEntry → List ℕ) (w : TypeEntry → Written) (zt : List ℕ) (z : Written) (ty : Types) →
+    0 < length (take ty.dims ty.scaling) → AllByRecursion (λ n. 0 < n) (take ty.dims ty.scaling) →
+    AreDirections 0 (length (take ty.dims ty.scaling)) ty.reflect → 0 < length (kernels ty) →
+    AllByRecursion (IsWrittenAs t w) (noises ty) →
+    AllByRecursion (λ e. is_name (name_at ty.groups e.group) ≡ true) (noises ty) →
+    AllByRecursion (IsWrittenAs t w) (kernels ty) →
+    AllByRecursion (λ e. (is_positive (w e) ≡ true) × IsMoments e.moments) (kernels ty) →
+    written_of zt ≡ Some z → is_standard z ≡ true →
+    AreDifferent (map (λ e. e.name) (noises ty) ++ map (λ e. e.name) (kernels ty)) →
+    document_of (file_of t zt ty) ≡ Ok (the_document w z ty)
 unfolding document_of version_of directions_of reflect_of list_of parameters_of noises_of unknown_part
 document_read t w zt z ty dims entries directions some n g k p zr zs d =
     let names = λ (es : List TypeEntry). map (λ (e : TypeEntry). e.name) es in
     rw (some_read sections.Scaling (λ n. integer (pos n)) (take ty.dims ty.scaling) dims, numbers_read (take ty.dims ty.scaling) 1 [] entries, directions_read (length (take ty.dims ty.scaling)) 0 1 ty.reflect [] directions tt, noises_read t w ty.groups (noises ty) 1 [] [] (names (kernels ty)) n g d, some_read sections.Unknown (unknown_data t zt) (kernels ty) some, unknowns_read t w zt z (kernels ty) 1 (names (noises ty)) [] k p zr zs d, rights_read t zt (record { list = names (noises ty) ++ names (kernels ty); first_noise = 0; first_unknown = length (names (noises ty)) }) (length (take ty.dims ty.scaling)) (kernels ty) 1 []) refl
 
-pub file_accepted : (t : TypeEntry → List ℕ) (w : TypeEntry → Written) (zt : List ℕ) (z : Written) (ty : Types) → 0 < length (take ty.dims ty.scaling) → AllByRecursion (λ n. 0 < n) (take ty.dims ty.scaling) → AreDirections 0 (length (take ty.dims ty.scaling)) ty.reflect → 0 < length (kernels ty) → AllByRecursion (IsWrittenAs t w) (noises ty) → AllByRecursion (λ e. is_name (name_at ty.groups e.group) ≡ true) (noises ty) → AllByRecursion (IsWrittenAs t w) (kernels ty) → AllByRecursion (λ e. (is_positive (w e) ≡ true) × IsMoments e.moments) (kernels ty) → written_of zt ≡ Some z → is_standard z ≡ true → AreDifferent (map (λ e. e.name) (noises ty) ++ map (λ e. e.name) (kernels ty)) → limits_of (the_document w z ty) ≡ Ok tt → accepted (file_of t zt ty) ≡ Ok (the_document w z ty)
+pub file_accepted : (t : TypeEntry → List ℕ) (w : TypeEntry → Written) (zt : List ℕ) (z : Written) (ty : Types) →
+    0 < length (take ty.dims ty.scaling) → AllByRecursion (λ n. 0 < n) (take ty.dims ty.scaling) →
+    AreDirections 0 (length (take ty.dims ty.scaling)) ty.reflect → 0 < length (kernels ty) →
+    AllByRecursion (IsWrittenAs t w) (noises ty) →
+    AllByRecursion (λ e. is_name (name_at ty.groups e.group) ≡ true) (noises ty) →
+    AllByRecursion (IsWrittenAs t w) (kernels ty) →
+    AllByRecursion (λ e. (is_positive (w e) ≡ true) × IsMoments e.moments) (kernels ty) →
+    written_of zt ≡ Some z → is_standard z ≡ true →
+    AreDifferent (map (λ e. e.name) (noises ty) ++ map (λ e. e.name) (kernels ty)) →
+    limits_of (the_document w z ty) ≡ Ok tt → accepted (file_of t zt ty) ≡ Ok (the_document w z ty)
 unfolding accepted
 file_accepted t w zt z ty dims entries directions some n g k p zr zs d limits =
     rw (document_read t w zt z ty dims entries directions some n g k p zr zs d, limits) refl

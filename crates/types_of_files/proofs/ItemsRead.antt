@@ -24,7 +24,8 @@ use Rattle.text_parts.specs.Reading.{skip}
 use Rattle.type_contexts.specs.Context.{name_at}
 use Rattle.types_of_files.proofs.WrittenFile.{noise_data, unknown_by, unknown_data, items_by}
 
-pub numbers_read : (ns : List ℕ) (at : ℕ) (found : List ℕ) → AllByRecursion (λ n. 0 < n) ns → numbers_from at found (items_by (λ n. integer (pos n)) ns) ≡ Ok (found ++ ns)
+pub numbers_read : (ns : List ℕ) (at : ℕ) (found : List ℕ) → AllByRecursion (λ n. 0 < n) ns →
+    numbers_from at found (items_by (λ n. integer (pos n)) ns) ≡ Ok (found ++ ns)
 unfolding numbers_from number_of
 numbers_read [] at found h = ap Ok (sym (append-nil found))
 numbers_read (n ∷ ns) at found h = rw (lt-ltb 0 n h.0) (numbers_read ns (at + 1) (found ++ n ∷ []) h.1 ∙ ap Ok (append_assoc found (n ∷ []) ns))
@@ -45,7 +46,9 @@ seen_push : (seen : List ℕ) (i : ℕ) → AllByRecursion (λ j. j < i) seen �
 seen_push [] i h = (omega arith, tt)
 seen_push (j ∷ seen) i h = (let lt = h.0 in omega (arith, lt), seen_push seen i h.1)
 
-pub directions_read : (dims past at : ℕ) (is seen : List ℕ) → AreDirections past dims is → AllByRecursion (λ j. j ≤ past) seen → directions_from dims at seen (items_by (λ i. integer (pos i)) is) ≡ Ok (seen ++ is)
+pub directions_read : (dims past at : ℕ) (is seen : List ℕ) → AreDirections past dims is →
+    AllByRecursion (λ j. j ≤ past) seen →
+    directions_from dims at seen (items_by (λ i. integer (pos i)) is) ≡ Ok (seen ++ is)
 unfolding directions_from direction_of
 directions_read dims past at [] seen h s = ap Ok (sym (append-nil seen))
 directions_read dims past at (i ∷ is) seen h s =
@@ -85,11 +88,17 @@ pub record IsWrittenAs (t : TypeEntry → List ℕ) (w : TypeEntry → Written) 
 abbrev pub noise_entry : (TypeEntry → Written) → List (List ℕ) → TypeEntry → NoiseEntry
 noise_entry w groups e = record { name = e.name; degree = w e; group = name_at groups e.group }
 
-noise_read : (t : TypeEntry → List ℕ) (w : TypeEntry → Written) (groups : List (List ℕ)) (at : ℕ) (seen : List (List ℕ)) (e : TypeEntry) → IsWrittenAs t w e → is_name (name_at groups e.group) ≡ true → stands_in seen e.name ≡ false → noise_of at seen (noise_data t groups e) ≡ Ok (noise_entry w groups e)
+noise_read : (t : TypeEntry → List ℕ) (w : TypeEntry → Written) (groups : List (List ℕ)) (at : ℕ) (seen : List (List ℕ)) (e : TypeEntry) →
+    IsWrittenAs t w e → is_name (name_at groups e.group) ≡ true → stands_in seen e.name ≡ false →
+    noise_of at seen (noise_data t groups e) ≡ Ok (noise_entry w groups e)
 unfolding noise_of table_of name_of text_of new_name degree_of group_of
 noise_read t w groups at seen e h group new = rw (h.name, new, h.read, group) refl
 
-pub noises_read : (t : TypeEntry → List ℕ) (w : TypeEntry → Written) (groups : List (List ℕ)) (es : List TypeEntry) (at : ℕ) (seen : List (List ℕ)) (found : List NoiseEntry) (more : List (List ℕ)) → AllByRecursion (IsWrittenAs t w) es → AllByRecursion (λ e. is_name (name_at groups e.group) ≡ true) es → AreDifferent (seen ++ (map (λ e. e.name) es ++ more)) → noises_from at seen found (items_by (noise_data t groups) es) ≡ Ok (seen ++ map (λ e. e.name) es, found ++ map (noise_entry w groups) es)
+pub noises_read : (t : TypeEntry → List ℕ) (w : TypeEntry → Written) (groups : List (List ℕ)) (es : List TypeEntry) (at : ℕ) (seen : List (List ℕ)) (found : List NoiseEntry) (more : List (List ℕ)) →
+    AllByRecursion (IsWrittenAs t w) es →
+    AllByRecursion (λ e. is_name (name_at groups e.group) ≡ true) es →
+    AreDifferent (seen ++ (map (λ e. e.name) es ++ more)) →
+    noises_from at seen found (items_by (noise_data t groups) es) ≡ Ok (seen ++ map (λ e. e.name) es, found ++ map (noise_entry w groups) es)
 unfolding noises_from
 noises_read t w groups [] at seen found more h g d = rw (append-nil seen, append-nil found) refl
 noises_read t w groups (e ∷ es) at seen found more h g d =
@@ -106,7 +115,12 @@ unfolding unknown_of table_of name_of text_of new_name degree_of positive_of sta
 unknown_read_by degree name zero_text degree_read zero_read None at seen named d above z standard new m = rw (named, new, d, above, z, standard) refl
 unknown_read_by degree name zero_text degree_read zero_read (Some r) at seen named d above z standard new m = rw (named, new, d, above, z, standard, le-leb r 20 m) refl
 
-pub unknowns_read : (t : TypeEntry → List ℕ) (w : TypeEntry → Written) (zero_text : List ℕ) (zero_read : Written) (es : List TypeEntry) (at : ℕ) (seen : List (List ℕ)) (found : List UnknownEntry) → AllByRecursion (IsWrittenAs t w) es → AllByRecursion (λ e. (is_positive (w e) ≡ true) × IsMoments e.moments) es → written_of zero_text ≡ Some zero_read → is_standard zero_read ≡ true → AreDifferent (seen ++ map (λ e. e.name) es) → unknowns_from Two at seen found (items_by (unknown_data t zero_text) es) ≡ Ok (seen ++ map (λ e. e.name) es, found ++ map (unknown_entry w zero_read) es)
+pub unknowns_read : (t : TypeEntry → List ℕ) (w : TypeEntry → Written) (zero_text : List ℕ) (zero_read : Written) (es : List TypeEntry) (at : ℕ) (seen : List (List ℕ)) (found : List UnknownEntry) →
+    AllByRecursion (IsWrittenAs t w) es →
+    AllByRecursion (λ e. (is_positive (w e) ≡ true) × IsMoments e.moments) es →
+    written_of zero_text ≡ Some zero_read → is_standard zero_read ≡ true →
+    AreDifferent (seen ++ map (λ e. e.name) es) →
+    unknowns_from Two at seen found (items_by (unknown_data t zero_text) es) ≡ Ok (seen ++ map (λ e. e.name) es, found ++ map (unknown_entry w zero_read) es)
 unfolding unknowns_from
 unknowns_read t w zero_text zero_read [] at seen found h p z s d = rw (append-nil seen, append-nil found) refl
 unknowns_read t w zero_text zero_read (e ∷ es) at seen found h p z s d =
@@ -119,7 +133,8 @@ empty_right : (dims : ℕ) → right_side dims [] ≡ Some []
 unfolding right_side skip
 empty_right dims = refl
 
-right_read : (degree zero_text name : List ℕ) (moments : Option ℕ) (names : Names) (dims at : ℕ) → right_of names dims at (unknown_by degree zero_text name moments) ≡ Ok []
+right_read : (degree zero_text name : List ℕ) (moments : Option ℕ) (names : Names) (dims at : ℕ) →
+    right_of names dims at (unknown_by degree zero_text name moments) ≡ Ok []
 unfolding right_of text_of
 right_read degree zero_text name None names dims at = rw (empty_right dims) refl
 right_read degree zero_text name (Some r) names dims at = rw (empty_right dims) refl
@@ -127,7 +142,8 @@ right_read degree zero_text name (Some r) names dims at = rw (empty_right dims) 
 abbrev pub no_terms : TypeEntry → List WrittenTerm
 no_terms e = []
 
-pub rights_read : (t : TypeEntry → List ℕ) (zero_text : List ℕ) (names : Names) (dims : ℕ) (es : List TypeEntry) (at : ℕ) (found : List (List WrittenTerm)) → rights_from names dims at found (items_by (unknown_data t zero_text) es) ≡ Ok (found ++ map no_terms es)
+pub rights_read : (t : TypeEntry → List ℕ) (zero_text : List ℕ) (names : Names) (dims : ℕ) (es : List TypeEntry) (at : ℕ) (found : List (List WrittenTerm)) →
+    rights_from names dims at found (items_by (unknown_data t zero_text) es) ≡ Ok (found ++ map no_terms es)
 unfolding rights_from
 rights_read t zero_text names dims [] at found = rw (append-nil found) refl
 rights_read t zero_text names dims (e ∷ es) at found =

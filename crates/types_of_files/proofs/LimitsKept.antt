@@ -75,18 +75,25 @@ rounded_small f above le = none_over 20 (rounded_up f) (quotient_most (f.num + (
 size_small : (den : ℕ) (w : Written) → IsSmallWritten den w → degree_size w ≡ None
 size_small den w h = rw (rounded_small w.plain h.plain_above h.plain_small, rounded_small w.with_k h.k_above h.k_small) refl
 
-push_clear : (den : ℕ) (fs : List WrittenFraction) (f : WrittenFraction) → ClearsAll den (map plain fs) → Clears den (plain f) → ClearsAll den (map plain (fs ++ f ∷ []))
+push_clear : (den : ℕ) (fs : List WrittenFraction) (f : WrittenFraction) →
+    ClearsAll den (map plain fs) → Clears den (plain f) → ClearsAll den (map plain (fs ++ f ∷ []))
 push_clear den [] f h c = (c, tt)
 push_clear den (g ∷ fs) f h c = (h.0, push_clear den fs f h.1 c)
 
-degree_clear : (den : ℕ) (fs : List WrittenFraction) (w : Written) → IsSmallWritten den w → ClearsAll den (map plain fs) → ClearsAll den (map plain (with_fractions fs w))
+degree_clear : (den : ℕ) (fs : List WrittenFraction) (w : Written) → IsSmallWritten den w →
+    ClearsAll den (map plain fs) → ClearsAll den (map plain (with_fractions fs w))
 degree_clear den fs w s h = push_clear den (fs ++ written w.plain ∷ []) (written w.with_k) (push_clear den fs (written w.plain) h s.plain_clear) s.k_clear
 
-noises_clear : (den : ℕ) (w : TypeEntry → Written) (groups : List (List ℕ)) (es : List TypeEntry) (fs : List WrittenFraction) → AllByRecursion (λ e. IsSmallWritten den (w e)) es → ClearsAll den (map plain fs) → ClearsAll den (map plain (fold noise_fractions fs (map (noise_entry w groups) es)))
+noises_clear : (den : ℕ) (w : TypeEntry → Written) (groups : List (List ℕ)) (es : List TypeEntry) (fs : List WrittenFraction) →
+    AllByRecursion (λ e. IsSmallWritten den (w e)) es → ClearsAll den (map plain fs) →
+    ClearsAll den (map plain (fold noise_fractions fs (map (noise_entry w groups) es)))
 noises_clear den w groups [] fs s h = h
 noises_clear den w groups (e ∷ es) fs s h = noises_clear den w groups es (with_fractions fs (w e)) s.1 (degree_clear den fs (w e) s.0 h)
 
-unknowns_clear : (den : ℕ) (w : TypeEntry → Written) (z : Written) (es : List TypeEntry) (fs : List WrittenFraction) → IsSmallWritten den z → AllByRecursion (λ e. IsSmallWritten den (w e)) es → ClearsAll den (map plain fs) → ClearsAll den (map plain (fold unknown_fractions fs (map (unknown_entry w z) es)))
+unknowns_clear : (den : ℕ) (w : TypeEntry → Written) (z : Written) (es : List TypeEntry) (fs : List WrittenFraction) →
+    IsSmallWritten den z → AllByRecursion (λ e. IsSmallWritten den (w e)) es →
+    ClearsAll den (map plain fs) →
+    ClearsAll den (map plain (fold unknown_fractions fs (map (unknown_entry w z) es)))
 unknowns_clear den w z [] fs r s h = h
 unknowns_clear den w z (e ∷ es) fs r s h = unknowns_clear den w z es (with_fractions (with_fractions fs (w e)) z) r s.1 (degree_clear den (with_fractions fs (w e)) z r (degree_clear den fs (w e) s.0 h))
 
@@ -113,40 +120,59 @@ document_by w z groups scaling reflect names ns ks = record {
 }
 
 -- the least common denominator of the file's degrees is at most each common one
-pub units_most : (den : ℕ) (w : TypeEntry → Written) (z : Written) (groups : List (List ℕ)) (scaling reflect : List ℕ) (names : List (List ℕ)) (ns ks : List TypeEntry) → 0 < den → den ≤ 1000000 → IsSmallWritten den z → AllByRecursion (λ e. IsSmallWritten den (w e)) ns → AllByRecursion (λ e. IsSmallWritten den (w e)) ks → units_of (document_by w z groups scaling reflect names ns ks) ≤ den
+pub units_most : (den : ℕ) (w : TypeEntry → Written) (z : Written) (groups : List (List ℕ)) (scaling reflect : List ℕ) (names : List (List ℕ)) (ns ks : List TypeEntry) →
+    0 < den → den ≤ 1000000 → IsSmallWritten den z →
+    AllByRecursion (λ e. IsSmallWritten den (w e)) ns →
+    AllByRecursion (λ e. IsSmallWritten den (w e)) ks →
+    units_of (document_by w z groups scaling reflect names ns ks) ≤ den
 unfolding units_of
 units_most den w z groups scaling reflect names ns ks above fits r n k =
     least_common_most den (degree_fractions (document_by w z groups scaling reflect names ns ks)) above fits
     (unknowns_clear den w z ks (fold noise_fractions [] (map (noise_entry w groups) ns)) r k (noises_clear den w groups ns [] n tt))
 
-denominator_small : (w : TypeEntry → Written) (z : Written) (groups : List (List ℕ)) (scaling reflect : List ℕ) (names : List (List ℕ)) (ns ks : List TypeEntry) → denominator_of (document_by w z groups scaling reflect names ns ks) ≤ 1000000
+denominator_small : (w : TypeEntry → Written) (z : Written) (groups : List (List ℕ)) (scaling reflect : List ℕ) (names : List (List ℕ)) (ns ks : List TypeEntry) →
+    denominator_of (document_by w z groups scaling reflect names ns ks) ≤ 1000000
 unfolding denominator_of
 denominator_small w z groups scaling reflect names ns ks =
     subst (λ fs. least_common fs ≤ 1000000) (sym (no_coefficients ks)) (let le = least_common_most 1 [] (omega arith) (omega arith) tt in omega (arith, le))
 
-counts_kept : (w : TypeEntry → Written) (z : Written) (groups : List (List ℕ)) (scaling reflect : List ℕ) (names : List (List ℕ)) (ns ks : List TypeEntry) → length scaling ≤ 5 → AllByRecursion (λ s. s ≤ 10) scaling → length ns ≤ 8 → length ks ≤ 8 → counts_of (document_by w z groups scaling reflect names ns ks) ≡ Ok tt
+counts_kept : (w : TypeEntry → Written) (z : Written) (groups : List (List ℕ)) (scaling reflect : List ℕ) (names : List (List ℕ)) (ns ks : List TypeEntry) →
+    length scaling ≤ 5 → AllByRecursion (λ s. s ≤ 10) scaling → length ns ≤ 8 → length ks ≤ 8 →
+    counts_of (document_by w z groups scaling reflect names ns ks) ≡ Ok tt
 unfolding counts_of
 counts_kept w z groups scaling reflect names ns ks dims entries n k =
     rw (none_over 5 (length scaling) dims, none_first (over 10) scaling (each (λ s. s ≤ 10) (λ s. over 10 s ≡ None) scaling (λ s le. none_over 10 s le) entries), none_over 8 (length (map (noise_entry w groups) ns)) (subst (λ m. m ≤ 8) (sym (length-map ns (noise_entry w groups))) n), none_over 8 (length (map (unknown_entry w z) ks)) (subst (λ m. m ≤ 8) (sym (length-map ks (unknown_entry w z))) k)) refl
 
-unknown_large : (den : ℕ) (w : TypeEntry → Written) (z : Written) (e : TypeEntry) → IsSmallWritten den z → IsSmallWritten den (w e) → unknown_number (unknown_entry w z e) ≡ None
+unknown_large : (den : ℕ) (w : TypeEntry → Written) (z : Written) (e : TypeEntry) →
+    IsSmallWritten den z → IsSmallWritten den (w e) → unknown_number (unknown_entry w z e) ≡ None
 unknown_large den w z e r h = rw (h.large, r.large) refl
 
-unknown_sized : (den : ℕ) (w : TypeEntry → Written) (z : Written) (e : TypeEntry) → IsSmallWritten den z → IsSmallWritten den (w e) → unknown_size (unknown_entry w z e) ≡ None
+unknown_sized : (den : ℕ) (w : TypeEntry → Written) (z : Written) (e : TypeEntry) →
+    IsSmallWritten den z → IsSmallWritten den (w e) → unknown_size (unknown_entry w z e) ≡ None
 unknown_sized den w z e r h = rw (size_small den (w e) h, size_small den z r) refl
 
-numbers_kept : (den : ℕ) (w : TypeEntry → Written) (z : Written) (groups : List (List ℕ)) (scaling reflect : List ℕ) (names : List (List ℕ)) (ns ks : List TypeEntry) → 0 < den → den ≤ 1000000 → IsSmallWritten den z → AllByRecursion (λ e. IsSmallWritten den (w e)) ns → AllByRecursion (λ e. IsSmallWritten den (w e)) ks → numbers_of (document_by w z groups scaling reflect names ns ks) ≡ Ok tt
+numbers_kept : (den : ℕ) (w : TypeEntry → Written) (z : Written) (groups : List (List ℕ)) (scaling reflect : List ℕ) (names : List (List ℕ)) (ns ks : List TypeEntry) →
+    0 < den → den ≤ 1000000 → IsSmallWritten den z →
+    AllByRecursion (λ e. IsSmallWritten den (w e)) ns →
+    AllByRecursion (λ e. IsSmallWritten den (w e)) ks →
+    numbers_of (document_by w z groups scaling reflect names ns ks) ≡ Ok tt
 unfolding numbers_of
 numbers_kept den w z groups scaling reflect names ns ks above fits r n k =
     let le = units_most den w z groups scaling reflect names ns ks above fits r n k in
     rw (none_first_map noise_number (noise_entry w groups) ns (each (λ e. IsSmallWritten den (w e)) (λ e. noise_number (noise_entry w groups e) ≡ None) ns (λ e h. h.large) n), none_first_map unknown_number (unknown_entry w z) ks (each (λ e. IsSmallWritten den (w e)) (λ e. unknown_number (unknown_entry w z e) ≡ None) ks (λ e h. unknown_large den w z e r h) k), no_terms_first (first_of term_number) ks refl, none_first_map noise_size (noise_entry w groups) ns (each (λ e. IsSmallWritten den (w e)) (λ e. noise_size (noise_entry w groups e) ≡ None) ns (λ e h. size_small den (w e) h) n), none_first_map unknown_size (unknown_entry w z) ks (each (λ e. IsSmallWritten den (w e)) (λ e. unknown_size (unknown_entry w z e) ≡ None) ks (λ e h. unknown_sized den w z e r h) k), none_over 1000000 (units_of (document_by w z groups scaling reflect names ns ks)) (omega (arith, le, fits))) refl
 
-rights_kept : (w : TypeEntry → Written) (z : Written) (groups : List (List ℕ)) (scaling reflect : List ℕ) (names : List (List ℕ)) (ns ks : List TypeEntry) → rights_of (document_by w z groups scaling reflect names ns ks) ≡ Ok tt
+rights_kept : (w : TypeEntry → Written) (z : Written) (groups : List (List ℕ)) (scaling reflect : List ℕ) (names : List (List ℕ)) (ns ks : List TypeEntry) →
+    rights_of (document_by w z groups scaling reflect names ns ks) ≡ Ok tt
 unfolding rights_of
 rights_kept w z groups scaling reflect names ns ks =
     rw (no_terms_first right_terms ks refl, no_terms_first (first_of term_factors) ks refl, no_terms_first (first_of term_derivative) ks refl, none_over 1000000 (denominator_of (document_by w z groups scaling reflect names ns ks)) (denominator_small w z groups scaling reflect names ns ks)) refl
 
-pub limits_kept : (den : ℕ) (w : TypeEntry → Written) (z : Written) (groups : List (List ℕ)) (scaling reflect : List ℕ) (names : List (List ℕ)) (ns ks : List TypeEntry) → length scaling ≤ 5 → AllByRecursion (λ s. s ≤ 10) scaling → length ns ≤ 8 → length ks ≤ 8 → 0 < den → den ≤ 1000000 → IsSmallWritten den z → AllByRecursion (λ e. IsSmallWritten den (w e)) ns → AllByRecursion (λ e. IsSmallWritten den (w e)) ks → limits_of (document_by w z groups scaling reflect names ns ks) ≡ Ok tt
+pub limits_kept : (den : ℕ) (w : TypeEntry → Written) (z : Written) (groups : List (List ℕ)) (scaling reflect : List ℕ) (names : List (List ℕ)) (ns ks : List TypeEntry) →
+    length scaling ≤ 5 → AllByRecursion (λ s. s ≤ 10) scaling → length ns ≤ 8 → length ks ≤ 8 →
+    0 < den → den ≤ 1000000 → IsSmallWritten den z →
+    AllByRecursion (λ e. IsSmallWritten den (w e)) ns →
+    AllByRecursion (λ e. IsSmallWritten den (w e)) ks →
+    limits_of (document_by w z groups scaling reflect names ns ks) ≡ Ok tt
 unfolding limits_of
 limits_kept den w z groups scaling reflect names ns ks dims entries n_few k_few above fits r n k =
     rw (counts_kept w z groups scaling reflect names ns ks dims entries n_few k_few, numbers_kept den w z groups scaling reflect names ns ks above fits r n k) (rights_kept w z groups scaling reflect names ns ks)

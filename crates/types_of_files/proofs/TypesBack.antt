@@ -36,7 +36,9 @@ order_most met (g ∷ gs) all (inl p) = order_most met gs all p.1
 order_most met (g ∷ gs) all (inr p) = let le = order_most (met + 1) gs all p.1 in omega (arith, le)
 
 -- the groups of the document
-groups_back : (w : TypeEntry → Written) (names : List (List ℕ)) (es : List TypeEntry) (met : ℕ) → AreDifferent names → AreInOrder met (map (λ e. e.group) es) (length names) → fold with_group (take met names) (map (noise_entry w names) es) ≡ names
+groups_back : (w : TypeEntry → Written) (names : List (List ℕ)) (es : List TypeEntry) (met : ℕ) →
+    AreDifferent names → AreInOrder met (map (λ e. e.group) es) (length names) →
+    fold with_group (take met names) (map (noise_entry w names) es) ≡ names
 groups_back w names [] met d h = ap (λ n. take n names) h ∙ take-length names
 groups_back w names (e ∷ es) met d (inl p) =
     ap (λ b. fold with_group (if b then take met names else take met names ++ name_at names e.group ∷ []) (map (noise_entry w names) es)) (stands_before names met e.group p.0 (order_most met (map (λ x. x.group) es) (length names) p.1) d) ∙ groups_back w names es met d p.1
@@ -55,7 +57,9 @@ none_there past dims (i ∷ is) j h le =
     other i j lt = grind (arith, nat_tests)
 
 -- the directions that stand in an ascending list are that list
-directions_back : (p : ℕ → Bool) (past n : ℕ) (is : List ℕ) → AreDirections past (past + n) is → ((j : ℕ) → past < j → p j ≡ list_any (λ i. nat_eq i j) is) → filter p (range_with_len (past + 1) n) ≡ is
+directions_back : (p : ℕ → Bool) (past n : ℕ) (is : List ℕ) → AreDirections past (past + n) is →
+    ((j : ℕ) → past < j → p j ≡ list_any (λ i. nat_eq i j) is) →
+    filter p (range_with_len (past + 1) n) ≡ is
 directions_back p past zero [] h told = refl
 directions_back p past zero (i ∷ is) h told = let lt = h.0 in let le = h.1 in absurd (omega (arith, lt, le))
 directions_back p past (suc n) [] h told = rw (told (past + 1) (omega arith)) (directions_back p (past + 1) n [] tt (λ j lt. told j (omega (arith, lt))))
@@ -83,12 +87,14 @@ directions_back p past (suc n) (i ∷ is) h told =
 abbrev pub by_text : (TypeEntry → List ℕ) → TypeEntry → Written
 by_text t e = read_of (t e)
 
-same_a : (den l : ℕ) (d : Degree) (text : List ℕ) → 0 < l → IsBack den d text → AreCleared l (read_of text) → IsSameFraction d.a den (in_units_of l (read_of text).plain) l
+same_a : (den l : ℕ) (d : Degree) (text : List ℕ) → 0 < l → IsBack den d text →
+    AreCleared l (read_of text) → IsSameFraction d.a den (in_units_of l (read_of text).plain) l
 same_a den l d text above h c =
     let f = (read_of text).plain in
     same_trans d.a den (under_sign f.negative f.num) f.den (in_units_of l f) l h.small.plain_above h.same.a (unit_same l f above h.small.plain_above c.0)
 
-same_b : (den l : ℕ) (d : Degree) (text : List ℕ) → 0 < l → IsBack den d text → AreCleared l (read_of text) → IsSameFraction d.b den (in_units_of l (read_of text).with_k) l
+same_b : (den l : ℕ) (d : Degree) (text : List ℕ) → 0 < l → IsBack den d text →
+    AreCleared l (read_of text) → IsSameFraction d.b den (in_units_of l (read_of text).with_k) l
 same_b den l d text above h c =
     let f = (read_of text).with_k in
     same_trans d.b den (under_sign f.negative f.num) f.den (in_units_of l f) l h.small.k_above h.same.b (unit_same l f above h.small.k_above c.1)
@@ -107,7 +113,10 @@ record IsKernelBack (den l : ℕ) (t : TypeEntry → List ℕ) (e : TypeEntry) :
   back : IsBack den e.degree (t e)
   clears : AreCleared l (read_of (t e))
 
-noises_back : (den l : ℕ) (t : TypeEntry → List ℕ) (names gs : List (List ℕ)) (es : List TypeEntry) → 0 < l → gs ≡ names → AreDifferent names → AllByRecursion (IsNoiseBack den l t (length names)) es → AllZip (IsSameEntry den l) es (map (noise_type l gs) (map (noise_entry (by_text t) names) es))
+noises_back : (den l : ℕ) (t : TypeEntry → List ℕ) (names gs : List (List ℕ)) (es : List TypeEntry) →
+    0 < l → gs ≡ names → AreDifferent names →
+    AllByRecursion (IsNoiseBack den l t (length names)) es →
+    AllZip (IsSameEntry den l) es (map (noise_type l gs) (map (noise_entry (by_text t) names) es))
 noises_back den l t names gs [] above same d h = tt
 noises_back den l t names gs (e ∷ es) above same d h = (
   record {
@@ -121,7 +130,9 @@ noises_back den l t names gs (e ∷ es) above same d h = (
   noises_back den l t names gs es above same d h.1,
 )
 
-kernels_back : (den l : ℕ) (t : TypeEntry → List ℕ) (z : Written) (es : List TypeEntry) → 0 < l → AllByRecursion (IsKernelBack den l t) es → AllZip (IsSameEntry den l) es (map (kernel_type l) (map (unknown_entry (by_text t) z) es))
+kernels_back : (den l : ℕ) (t : TypeEntry → List ℕ) (z : Written) (es : List TypeEntry) → 0 < l →
+    AllByRecursion (IsKernelBack den l t) es →
+    AllZip (IsSameEntry den l) es (map (kernel_type l) (map (unknown_entry (by_text t) z) es))
 kernels_back den l t z [] above h = tt
 kernels_back den l t z (e ∷ es) above h = (
   record {
@@ -157,7 +168,11 @@ whole : (n m : ℕ) → n ≡ m → m ≡ 0 + n
 whole n m e = omega (arith, e)
 
 -- the types of the document are the same types
-pub types_back : (ty : Types) (t : TypeEntry → List ℕ) (z : Written) → AreTypes ty → AllByRecursion (λ e. (e.kind ≡ Noise) × (e.group < length ty.groups) × (e.moments ≡ None) × IsBack (unsigned_abs ty.units.den) e.degree (t e)) (noises ty) → AllByRecursion (λ e. (e.kind ≡ Kernel) × (e.group ≡ 0) × IsBack (unsigned_abs ty.units.den) e.degree (t e)) (kernels ty) → units_of (the_document (by_text t) z ty) ≤ 1000000 → AreSameTypes ty (types_of (units_of (the_document (by_text t) z ty)) (the_document (by_text t) z ty))
+pub types_back : (ty : Types) (t : TypeEntry → List ℕ) (z : Written) → AreTypes ty →
+    AllByRecursion (λ e. (e.kind ≡ Noise) × (e.group < length ty.groups) × (e.moments ≡ None) × IsBack (unsigned_abs ty.units.den) e.degree (t e)) (noises ty) →
+    AllByRecursion (λ e. (e.kind ≡ Kernel) × (e.group ≡ 0) × IsBack (unsigned_abs ty.units.den) e.degree (t e)) (kernels ty) →
+    units_of (the_document (by_text t) z ty) ≤ 1000000 →
+    AreSameTypes ty (types_of (units_of (the_document (by_text t) z ty)) (the_document (by_text t) z ty))
 types_back ty t z types n k fits =
     let doc = the_document (by_text t) z ty in
     let den = unsigned_abs ty.units.den in

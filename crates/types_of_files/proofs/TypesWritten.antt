@@ -70,7 +70,8 @@ record IsKernelWritten (den : ℕ) (t : TypeEntry → List ℕ) (e : TypeEntry) 
 abbrev texts : (den : ℕ) → 0 < den → TypeEntry → List ℕ
 texts den above e = (degree_has_text e.degree den above).0
 
-noise_written : (den all : ℕ) (above : 0 < den) (e : TypeEntry) → IsNoiseEntry den e → (e.group < all) × (is_name e.name ≡ true) → IsNoiseWritten den all (texts den above) e
+noise_written : (den all : ℕ) (above : 0 < den) (e : TypeEntry) → IsNoiseEntry den e →
+    (e.group < all) × (is_name e.name ≡ true) → IsNoiseWritten den all (texts den above) e
 noise_written den all above e n p = record {
   kind = n.kind;
   group = p.0;
@@ -79,7 +80,8 @@ noise_written den all above e n p = record {
   moments = n.moments;
 }
 
-kernel_written : (den : ℕ) (above : 0 < den) (e : TypeEntry) → den ≤ 1000000 → IsKernelEntry den e → is_name e.name ≡ true → IsKernelWritten den (texts den above) e
+kernel_written : (den : ℕ) (above : 0 < den) (e : TypeEntry) → den ≤ 1000000 → IsKernelEntry den e →
+    is_name e.name ≡ true → IsKernelWritten den (texts den above) e
 kernel_written den above e fits k name = record {
   kind = k.kind;
   group = k.group;
@@ -90,7 +92,8 @@ kernel_written den above e fits k name = record {
   moments = k.moments;
 }
 
-noises_written : (ty : Types) (types : AreTypes ty) (above : 0 < unsigned_abs ty.units.den) → AllByRecursion (IsNoiseWritten (unsigned_abs ty.units.den) (length ty.groups) (texts (unsigned_abs ty.units.den) above)) (noises ty)
+noises_written : (ty : Types) (types : AreTypes ty) (above : 0 < unsigned_abs ty.units.den) →
+    AllByRecursion (IsNoiseWritten (unsigned_abs ty.units.den) (length ty.groups) (texts (unsigned_abs ty.units.den) above)) (noises ty)
 noises_written ty types above =
     let den = unsigned_abs ty.units.den in
     both (IsNoiseEntry den) (λ e. (e.group < length ty.groups) × (is_name e.name ≡ true)) (IsNoiseWritten den (length ty.groups) (texts den above)) (noises ty) (noise_written den (length ty.groups) above) types.of_noises
@@ -98,13 +101,15 @@ noises_written ty types above =
     (unmapped (λ g. g < length ty.groups) (λ e. e.group) (noises ty) (order_within 0 (map (λ e. e.group) (noises ty)) (length ty.groups) types.numbered))
     (all_front (λ e. is_name e.name ≡ true) (noise_count ty) ty.list (unmapped (λ n. is_name n ≡ true) (λ e. e.name) ty.list types.names.are_names)))
 
-kernels_written : (ty : Types) (types : AreTypes ty) (above : 0 < unsigned_abs ty.units.den) → AllByRecursion (IsKernelWritten (unsigned_abs ty.units.den) (texts (unsigned_abs ty.units.den) above)) (kernels ty)
+kernels_written : (ty : Types) (types : AreTypes ty) (above : 0 < unsigned_abs ty.units.den) →
+    AllByRecursion (IsKernelWritten (unsigned_abs ty.units.den) (texts (unsigned_abs ty.units.den) above)) (kernels ty)
 kernels_written ty types above =
     let den = unsigned_abs ty.units.den in
     both (IsKernelEntry den) (λ e. is_name e.name ≡ true) (IsKernelWritten den (texts den above)) (kernels ty) (λ e k n. kernel_written den above e (den_small ty types) k n) types.of_kernels
     (all_back (λ e. is_name e.name ≡ true) (noise_count ty) ty.list (unmapped (λ n. is_name n ≡ true) (λ e. e.name) ty.list types.names.are_names))
 
-names_joined : (ty : Types) → map (λ (e : TypeEntry). e.name) ty.list ≡ map (λ (e : TypeEntry). e.name) (noises ty) ++ map (λ (e : TypeEntry). e.name) (kernels ty)
+names_joined : (ty : Types) →
+    map (λ (e : TypeEntry). e.name) ty.list ≡ map (λ (e : TypeEntry). e.name) (noises ty) ++ map (λ (e : TypeEntry). e.name) (kernels ty)
 names_joined ty = ap (map (λ (e : TypeEntry). e.name)) (sym (take-append-drop (noise_count ty) ty.list)) ∙ map-append (λ (e : TypeEntry). e.name) (noises ty) (kernels ty)
 
 pub types_written : (ty : Types) → AreTypes ty → (ms : Members) × (doc : Document) × (accepted ms ≡ Ok doc) × AreSameTypes ty (types_of (units_of doc) doc)

@@ -1,7 +1,8 @@
 -- A file that is written for types.
 --   noise_data t groups e == the table of the noise e, whose degree has the text t e
 --   moments_member moments ms == ms, and in front of them the moment number, where there is one
---   unknown_by degree regularity name moments == the table of an unknown with these texts and this moment number, whose right side is empty
+--   unknown_by degree regularity name moments == the table of an unknown with these texts and this
+--       moment number, whose right side is empty
 --   unknown_data t regularity e == that of an unknown for the kernel e, of regularity 0
 --   file_of t regularity ty == the table of a file with these types
 use Rattle.std.specs.Prelude.{ℕ, pos, List, [], ◌∷◌, codes, take, Option, Some, None}

@@ -19,7 +19,9 @@ module _ (cs : List (List ℕ)) (w : List ℕ) where
   same_connections piece (m ∷ ms) h =
       ap (λ k. k ∷ map (connection_of cs (w ++ piece)) ms) (same_connection piece m h.0.1) ∙ ap (λ ks. connection_of cs w m ∷ ks) (same_connections piece ms h.1)
 
-  pub longer_connection : (piece : List ℕ) (m n : Mark) → IsLast cs w m → n.connection ≡ m.connection → n.read ≡ m.read → n.start ≡ m.start → n.end ≡ length (w ++ piece)
+  pub longer_connection : (piece : List ℕ) (m n : Mark) → IsLast cs w m →
+      n.connection ≡ m.connection → n.read ≡ m.read → n.start ≡ m.start →
+      n.end ≡ length (w ++ piece)
       → connection_of cs (w ++ piece) n ≡ written_on (connection_of cs w m) piece
   longer_connection piece m n h connection read start end =
       let ends = h.end in
@@ -31,7 +33,8 @@ module _ (cs : List (List ℕ)) (w : List ℕ) where
       rw (connection, read, written) refl
 
   -- the book after a piece was written on the last connection
-  pub book_written : (new piece : List ℕ) (waiting : List (List ℕ)) (earlier : List Mark) (room : ℕ) (m n : Mark) → new ≡ w ++ piece → AreKept w earlier → IsLast cs w m
+  pub book_written : (new piece : List ℕ) (waiting : List (List ℕ)) (earlier : List Mark) (room : ℕ) (m n : Mark) →
+      new ≡ w ++ piece → AreKept w earlier → IsLast cs w m
       → n.connection ≡ m.connection → n.read ≡ m.read → n.start ≡ m.start → n.end ≡ length new
       → book_of waiting (map (connection_of cs new) earlier) (Some (connection_of cs new n)) (room - length new)
       ≡ on_last (book_of waiting (map (connection_of cs w) earlier) (Some (connection_of cs w m)) (room - length w)) (written_on (connection_of cs w m) piece) (room - length w - length piece)

@@ -25,7 +25,9 @@ begins-append room piece at h =
     ∙ bytes_eq-append (take at room) (take (length piece) (drop at room)) piece
 
 -- a piece that fits: the sink goes on telling
-pub told_after-same : (room piece : List ℕ) (at : ℕ) → at ≤ length room → begins room (take at room ++ piece) ≡ true → Some (take (at + length piece) room) ≡ told_after room (Some (take at room)) piece
+pub told_after-same : (room piece : List ℕ) (at : ℕ) → at ≤ length room →
+    begins room (take at room ++ piece) ≡ true →
+    Some (take (at + length piece) room) ≡ told_after room (Some (take at room)) piece
 told_after-same room piece at h same =
     let fits : take (length piece) (drop at room) ≡ piece = (bytes_eq-Decides (take (length piece) (drop at room)) piece).0 (sym (begins-append room piece at h) ∙ same) in
     rw same (ap Some (take-add room at (length piece) h ∙ ap (λ l. take at room ++ l) fits))

@@ -1,6 +1,9 @@
 -- The connections of a door in memory.
---   Book == the bytes of those that are still to be taken, the taken ones before the last one, the last one, and how many bytes can still be written
---   connection_of cs w m == the connection of a mark: its bytes are those of its number among cs, and what was written on it stands in w
+-- Working notions of the code and of proofs, which no contract of a public call names:
+--   Book == the bytes of those that are still to be taken, the taken ones before the last one, the
+--       last one, and how many bytes can still be written
+--   connection_of cs w m == the connection of a mark: its bytes are those of its number among cs,
+--       and what was written on it stands in w
 --   AreKept w ms == what was written on the connections of these marks stands in w
 --   written_in b i == what was written on the i-th taken connection, from 0
 --   IsLast cs w m == the connection of the mark is one of cs, and what was written on it ends w
@@ -21,7 +24,11 @@ pub record Book : Type 0 where
   pub left : ℕ
 
 abbrev pub connection_of : List (List ℕ) → List ℕ → Mark → Connection
-connection_of cs w m = record { bytes = slice_index_or cs m.connection []; read = m.read; written = drop m.start (take m.end w) }
+connection_of cs w m = record {
+  bytes = slice_index_or cs m.connection [];
+  read = m.read;
+  written = drop m.start (take m.end w);
+}
 
 abbrev pub AreKept : List ℕ → List Mark → Type 0
 AreKept w ms = AllByRecursion (λ m. (m.start ≤ m.end) × (m.end ≤ length w)) ms
@@ -33,10 +40,16 @@ pub record IsLast (cs : List (List ℕ)) (w : List ℕ) (m : Mark) : Type 0 wher
   pub end : m.end ≡ length w
 
 abbrev pub written_in : Book → ℕ → List ℕ
-written_in b i = unwrap_or (option_map (λ k. k.written) (slice_get (b.earlier ++ last_as_list b.last) i)) []
+written_in b i =
+    unwrap_or (option_map (λ k. k.written) (slice_get (b.earlier ++ last_as_list b.last) i)) []
 
 abbrev pub next_taken : Book → Book
-next_taken b = record { waiting = drop 1 b.waiting; earlier = b.earlier ++ last_as_list b.last; last = Some (fresh (slice_index_or b.waiting 0 [])); left = b.left }
+next_taken b = record {
+  waiting = drop 1 b.waiting;
+  earlier = b.earlier ++ last_as_list b.last;
+  last = Some (fresh (slice_index_or b.waiting 0 []));
+  left = b.left;
+}
 
 abbrev pub on_last : Book → Connection → ℕ → Book
 on_last b k left = record { waiting = b.waiting; earlier = b.earlier; last = Some k; left = left }

@@ -1,14 +1,20 @@
 -- What a door tells of its connections, and how its calls change that.
---   Connection == a connection that was taken: the bytes that the peer sends until it ends its side, how many of them were read, and what was written
---   Connections == what a door tells: the bytes of the connections that are still to be taken, in their order; the taken ones before the last one, and the last one; how
---     many bytes of that were read when its last read began; how often it was told to listen, a count that stays at its last value; and the last port that it was given
+--   Connection == a connection that was taken: the bytes that the peer sends until it ends its
+--       side, how many of them were read, and what was written
+--   Connections == what a door tells: the bytes of the connections that are still to be taken, in
+--       their order; the taken ones before the last one, and the last one; how many bytes of that
+--       were read when its last read began; how often it was told to listen, a count that stays at
+--       its last value; and the last port that it was given
+--   last_as_list k == the last connection alone, or none
 --   taken_of c == all taken connections, in their order
 --   written_at c i == what was written on the i-th taken connection, from 0
 --   fresh bytes == a connection that was just taken
---   with_last c k n == c with the last connection k, of which n bytes were read when its last read began
+--   with_last c k n == c with the last connection k, of which n bytes were read when its last read
+--       began
 --   IsAsked port was now == a door that was told to listen
 --   IsNext was now == the next connection was taken
---   IsReadOn room n was now == the next n bytes of the last connection were read to the front of room; n is 0 only at their end
+--   IsReadOn room n was now == the next n bytes of the last connection were read to the front of
+--       room; n is 0 only at their end
 --   IsUnread was now == a read began, and failed
 --   IsWrittenOn piece was now == the piece was written on the last connection
 --   IsFrontWrittenOn piece was now == a front of it was
@@ -45,7 +51,14 @@ abbrev pub fresh : List ℕ → Connection
 fresh bytes = record { bytes = bytes; read = 0; written = [] }
 
 abbrev pub with_last : Connections → Connection → ℕ → Connections
-with_last c k n = record { waiting = c.waiting; earlier = c.earlier; last = Some k; before = n; listens = c.listens; port = c.port }
+with_last c k n = record {
+  waiting = c.waiting;
+  earlier = c.earlier;
+  last = Some k;
+  before = n;
+  listens = c.listens;
+  port = c.port;
+}
 
 abbrev pub IsAsked : ℕ → Connections → Connections → Type 0
 IsAsked port was now = now ≡ record { waiting = was.waiting; earlier = was.earlier; last = was.last; before = was.before; listens = raised was.listens; port = Some port }
@@ -59,7 +72,9 @@ pub record IsNext (was now : Connections) : Type 0 where
 pub record IsReadOn (room : List ℕ) (n : ℕ) (was now : Connections) : Type 0 where
   pub talk : Connection
   pub last : was.last ≡ Some talk
-  pub is : now ≡ with_last was (record { bytes = talk.bytes; read = talk.read + n; written = talk.written }) talk.read
+  pub is : now
+      ≡ with_last was (record { bytes = talk.bytes; read = talk.read + n; written = talk.written })
+      talk.read
   pub within : talk.read + n ≤ length talk.bytes
   pub bytes : take n room ≡ take n (drop talk.read talk.bytes)
   pub end : n ≡ 0 → talk.read ≡ length talk.bytes
@@ -72,7 +87,9 @@ pub record IsUnread (was now : Connections) : Type 0 where
 pub record IsWrittenOn (piece : List ℕ) (was now : Connections) : Type 0 where
   pub talk : Connection
   pub last : was.last ≡ Some talk
-  pub is : now ≡ with_last was (record { bytes = talk.bytes; read = talk.read; written = talk.written ++ piece }) was.before
+  pub is : now
+      ≡ with_last was
+      (record { bytes = talk.bytes; read = talk.read; written = talk.written ++ piece }) was.before
 
 pub record IsFrontWrittenOn (piece : List ℕ) (was now : Connections) : Type 0 where
   pub front : List ℕ
@@ -83,7 +100,8 @@ pub record IsFrontWrittenOn (piece : List ℕ) (was now : Connections) : Type 0 
 abbrev pub IsSame : Connections → Connections → Type 0
 IsSame was now = now ≡ was
 
-abbrev pub Becomes : Option Connections → Option Connections → (Connections → Connections → Type 0) → Type 0
+abbrev pub Becomes : Option Connections → Option Connections →
+    (Connections → Connections → Type 0) → Type 0
 Becomes None new change = ⊤
 Becomes (Some was) None change = ⊥
 Becomes (Some was) (Some now) change = change was now

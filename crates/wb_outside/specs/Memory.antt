@@ -1,10 +1,13 @@
 -- The objects in memory: what they hold, and what a call leaves.
---   HeldFiles, HeldSink, HeldDoor == what files, a sink, a door in memory hold; `failing` has the numbers of the calls that fail, from 1
+--   HeldFiles, HeldSink, HeldDoor == what files, a sink, a door in memory hold; `failing` has the
+--       numbers of the calls that fail, from 1
 --   is_listed failing n == the n-th call is one that fails
---   open_fails f name == the next call of f for that name fails: it is listed, or there is no such file
+--   open_fails f name == the next call of f for that name fails: it is listed, or there is no such
+--       file
 --   after_open f name == f after a call that answered: the name was asked for
 --   after_memory f == f after a call for which there was no memory
---   write_fails s piece == the next write of s fails: it is listed, or the piece is longer than the room left
+--   write_fails s piece == the next write of s fails: it is listed, or the piece is longer than the
+--       room left
 --   after_write s piece == s after a write: a failed one appends nothing
 --   call_fails d == the next call of the door d fails, whichever it is
 --   after_call d told is_open left taken doors lines == d after a call that left these
@@ -14,7 +17,8 @@
 --   read_size d k size == how many bytes a read of the connection k into a room of this size takes
 --   read_told, unread_told d .. == what d tells after a read that took something, that failed
 --   after_read d size == d after a read into a room of this size: a failed one takes nothing
---   door_write_fails d piece == the next write of d fails: it is listed, or the piece is longer than what can still be written
+--   door_write_fails d piece == the next write of d fails: it is listed, or the piece is longer
+--       than what can still be written
 --   written_told d piece .. == what d tells after a write
 --   after_door_write d piece == d after a write: a failed one appends nothing
 --   after_finish d == d after the connection was closed
@@ -48,7 +52,13 @@ after_open f name = record {
 }
 
 abbrev pub after_memory : HeldFiles → HeldFiles
-after_memory f = record { texts = f.texts; failing = f.failing; asked = f.asked; calls = raised f.calls; faults = f.faults }
+after_memory f = record {
+  texts = f.texts;
+  failing = f.failing;
+  asked = f.asked;
+  calls = raised f.calls;
+  faults = f.faults;
+}
 
 pub record HeldSink : Type 0 where
   pub bytes : List ℕ
@@ -58,7 +68,8 @@ pub record HeldSink : Type 0 where
   pub faults : ℕ
 
 abbrev pub write_fails : HeldSink → List ℕ → Bool
-write_fails s piece = is_listed s.failing (raised s.calls) || nat_lt (s.room - length s.bytes) (length piece)
+write_fails s piece = is_listed s.failing (raised s.calls)
+    || nat_lt (s.room - length s.bytes) (length piece)
 
 abbrev pub after_write : HeldSink → List ℕ → HeldSink
 after_write s piece = record {
@@ -97,11 +108,19 @@ after_call d told is_open left taken doors lines = record {
 }
 
 abbrev pub asked_to : ℕ → Connections → Connections
-asked_to port c = record { waiting = c.waiting; earlier = c.earlier; last = c.last; before = c.before; listens = raised c.listens; port = Some port }
+asked_to port c = record {
+  waiting = c.waiting;
+  earlier = c.earlier;
+  last = c.last;
+  before = c.before;
+  listens = raised c.listens;
+  port = Some port;
+}
 
 abbrev pub after_listen : HeldDoor → ℕ → HeldDoor
 after_listen d port =
-    after_call d (asked_to port d.told) d.is_open d.left d.taken (if call_fails d then raised d.door_faults else d.door_faults) d.line_faults
+    after_call d (asked_to port d.told) d.is_open d.left d.taken
+    (if call_fails d then raised d.door_faults else d.door_faults) d.line_faults
 
 abbrev pub accept_fails : HeldDoor → Bool
 accept_fails d = call_fails d || nat_eq (length d.told.waiting) 0
@@ -118,15 +137,19 @@ next_connection c = record {
 
 abbrev pub after_accept : HeldDoor → HeldDoor
 after_accept d =
-    if accept_fails d then after_call d d.told d.is_open d.left d.taken (raised d.door_faults) d.line_faults
-    else after_call d (next_connection d.told) true d.left (raised d.taken) d.door_faults d.line_faults
+    if accept_fails d then after_call d d.told d.is_open d.left d.taken (raised d.door_faults)
+    d.line_faults
+    else after_call d (next_connection d.told) true d.left (raised d.taken) d.door_faults
+    d.line_faults
 
 abbrev pub read_size : HeldDoor → Connection → ℕ → ℕ
 read_size d k size = min (min d.cut size) (length k.bytes - k.read)
 
 abbrev pub read_told : HeldDoor → ℕ → Option Connection → Connections
 read_told d size None = d.told
-read_told d size (Some k) = with_last d.told (record { bytes = k.bytes; read = k.read + read_size d k size; written = k.written }) k.read
+read_told d size (Some k) =
+    with_last d.told
+    (record { bytes = k.bytes; read = k.read + read_size d k size; written = k.written }) k.read
 
 abbrev pub unread_told : HeldDoor → Option Connection → Connections
 unread_told d None = d.told
@@ -134,20 +157,26 @@ unread_told d (Some k) = with_last d.told k k.read
 
 abbrev pub after_read : HeldDoor → ℕ → HeldDoor
 after_read d size =
-    if call_fails d then after_call d (unread_told d d.told.last) d.is_open d.left d.taken d.door_faults (raised d.line_faults)
-    else after_call d (read_told d size d.told.last) d.is_open d.left d.taken d.door_faults d.line_faults
+    if call_fails d then after_call d (unread_told d d.told.last) d.is_open d.left d.taken
+    d.door_faults (raised d.line_faults)
+    else after_call d (read_told d size d.told.last) d.is_open d.left d.taken d.door_faults
+    d.line_faults
 
 abbrev pub door_write_fails : HeldDoor → List ℕ → Bool
 door_write_fails d piece = call_fails d || nat_lt d.left (length piece)
 
 abbrev pub written_told : HeldDoor → List ℕ → Option Connection → Connections
 written_told d piece None = d.told
-written_told d piece (Some k) = with_last d.told (record { bytes = k.bytes; read = k.read; written = k.written ++ piece }) d.told.before
+written_told d piece (Some k) =
+    with_last d.told (record { bytes = k.bytes; read = k.read; written = k.written ++ piece })
+    d.told.before
 
 abbrev pub after_door_write : HeldDoor → List ℕ → HeldDoor
 after_door_write d piece =
-    if door_write_fails d piece then after_call d d.told d.is_open d.left d.taken d.door_faults (raised d.line_faults)
-    else after_call d (written_told d piece d.told.last) d.is_open (d.left - length piece) d.taken d.door_faults d.line_faults
+    if door_write_fails d piece then after_call d d.told d.is_open d.left d.taken d.door_faults
+    (raised d.line_faults)
+    else after_call d (written_told d piece d.told.last) d.is_open (d.left - length piece) d.taken
+    d.door_faults d.line_faults
 
 abbrev pub after_finish : HeldDoor → HeldDoor
 after_finish d = record {

@@ -3,7 +3,9 @@
 --   quiet_text texts name == the text of that name, empty where there is none
 --   Listened == what a quiet sink holds: the bytes that it expects, and what it tells
 --   begins room bytes == these bytes are the front of room
---   after_listening q piece == q after a write: it tells as long as what was written is a front of its room
+--   told_after room was piece == what a sink tells after a write, where it told `was` before
+--   after_listening q piece == q after a write: it tells as long as what was written is a front of
+--       its room
 use Rattle.std.specs.Prelude.{ℕ, Bool, List, [], ◌++◌, length, take, Option, Some, None, unwrap_or, if◌then◌else◌}
 use Rattle.std.specs.Str.{bytes_eq}
 use Rattle.wb_outside.specs.Texts.{text_in}

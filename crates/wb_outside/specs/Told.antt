@@ -1,10 +1,14 @@
--- What an object of the outside tells of its content before a call and after it. An object may tell nothing.
+-- What an object of the outside tells of its content before a call and after it. An object may tell
+-- nothing.
 --   Grows old new piece == what is told grew by these bytes; who tells at the end told at the start
 --   GrowsByFront old new piece == what is told grew by a front of these bytes
---   Writing == what a sink told before some calls and tells after them, and its counts of faults before and after
+--   Writing == what a sink told before some calls and tells after them, and its counts of faults
+--       before and after
 --   writing told faults old new == that of a sink which was `old` and is `new`
---   Gets w piece == what is told grew by a front of these bytes, and by all of them unless the count of faults rose
---   Lengthens old new names == the told names grew by these; who tells at the start tells at the end
+--   Gets w piece == what is told grew by a front of these bytes, and by all of them unless the
+--       count of faults rose
+--   Lengthens old new names == the told names grew by these; who tells at the start tells at the
+--       end
 use Rattle.wb_outside.specs.Causes.{Rose}
 use Rattle.std.specs.Prelude.{◌≡◌, ℕ, List, ◌++◌, Option, Some, None, ⊤}
 
@@ -26,7 +30,8 @@ pub record Writing : Type 0 where
   pub after : ℕ
 
 abbrev pub writing : {S : Type 0} → (S → Option (List ℕ)) → (S → ℕ) → S → S → Writing
-writing told faults old new = record { old = told old; new = told new; before = faults old; after = faults new }
+writing told faults old new =
+    record { old = told old; new = told new; before = faults old; after = faults new }
 
 pub record Gets (w : Writing) (piece : List ℕ) : Type 0 where
   pub front : GrowsByFront w.old w.new piece

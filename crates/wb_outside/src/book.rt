@@ -5,7 +5,8 @@ use crate::mark::Mark;
 use std::alloc::{AllocError, Global};
 use std::marker::Model;
 
-/// The connections of a door in memory. What is written on all of them stands in one buffer, whose memory is taken at once.
+/// The connections of a door in memory. What is written on all of them stands in one buffer, whose
+/// memory is taken at once.
 #[derive(Drop)]
 pub struct Book {
     connections: Vec<Vec<u8>>,
@@ -39,7 +40,8 @@ impl Book {
     ghost use Rattle.std.specs.Prelude.{min};
     ghost use Rattle.wb_outside.specs.Books.{next_taken, on_last, read_on, written_on, written_in};
 
-    /// The connections with these bytes, none of which was taken, and room for so many written bytes in all. Refused only for want of memory.
+    /// The connections with these bytes, none of which was taken, and room for so many written
+    /// bytes in all. Refused only for want of memory.
     pub fn new(alloc: Global, connections: Vec<Vec<u8>>, room: usize) -> Result<Book, AllocError>
         ensures waiting { IfOk result (λ b. b.waiting ≡ map (λ c. c.items) connections.items) }
         ensures earlier { IfOk result (λ b. b.earlier ≡ []) }
@@ -100,7 +102,8 @@ impl Book {
         }
     }
 
-    /// Reads at most `most` of the next bytes of the last connection into the front of the room, and answers how many.
+    /// Reads at most `most` of the next bytes of the last connection into the front of the room,
+    /// and answers how many.
     pub fn read(&mut self, room: &mut [u8], most: usize) -> usize
         requires { most ≤ length room.old }
         ensures read { IfSome self.old.last (λ k. (result ≡ min most (length k.bytes - k.read)) × (self.new ≡ on_last self.old (read_on k result) self.old.left)
@@ -127,7 +130,8 @@ impl Book {
     /// Appends the piece to what was written on the last connection.
     pub fn write(&mut self, piece: &[u8])
         requires { length piece.now ≤ self.old.left }
-        ensures written { IfSome self.old.last (λ k. self.new ≡ on_last self.old (written_on k piece.now) (self.old.left - length piece.now)) }
+        ensures written { IfSome self.old.last (λ k. self.new
+            ≡ on_last self.old (written_on k piece.now) (self.old.left - length piece.now)) }
         ensures none { self.old.last ≡ None → self.new ≡ self.old }
     {
         let Some(mark) = self.last else {

@@ -36,7 +36,8 @@ impl<T: Drop> From<AllocFailed<T>> for OutsideError {
 
 /// Files by their names.
 ///
-/// An object may tell its content: the text of each name, and the names that were asked for. One that tells goes on telling.
+/// An object may tell its content: the text of each name, and the names that were asked for. One
+/// that tells goes on telling.
 pub trait Files {
     /// The names that were asked for, in order, where the object tells its content.
     ghost asked: { Self → Option (List (List ℕ)) };
@@ -51,14 +52,17 @@ pub trait Files {
     /// The name counts as asked for unless the answer is `Memory`.
     fn open_text(&mut self, alloc: Global, name: &str, most: usize) -> Result<Vec<u8>, OutsideError>
         // The answer.
-        ensures bytes { IfOk result (λ v. (t : List ℕ) → text self.old name.now ≡ Some t → v.items ≡ take most t) }
+        ensures bytes { IfOk result (λ v. (t : List ℕ) → text self.old name.now ≡ Some t →
+            v.items ≡ take most t) }
         ensures there { OnOk result (IsSome (asked self.old) → IsSome (text self.old name.now)) }
         ensures cut { IfOk result (λ v. length v.items ≤ most) }
 
         // What is told afterwards.
         ensures same { (n : List ℕ) → text self.new n ≡ text self.old n }
-        ensures asked { result ≢ Err OutsideError.Memory → Lengthens (asked self.old) (asked self.new) (name.now ∷ []) }
-        ensures unasked { result ≡ Err OutsideError.Memory → Lengthens (asked self.old) (asked self.new) [] }
+        ensures asked { result ≢ Err OutsideError.Memory →
+            Lengthens (asked self.old) (asked self.new) (name.now ∷ []) }
+        ensures unasked { result ≡ Err OutsideError.Memory →
+            Lengthens (asked self.old) (asked self.new) [] }
 
         // The count of faults never falls, and a call fails only where it rose.
         ensures later { faults self.old ≤ faults self.new }

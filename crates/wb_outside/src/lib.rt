@@ -1,7 +1,9 @@
-//! What the workbench asks of the outside: files that are read whole, places to write to, and connections that peers make.
+//! What the workbench asks of the outside: files that are read whole, places to write to, and
+//! connections that peers make.
 //!
-//! Each trait says what an object tells of its content, where it tells, and counts its faults:
-//! a call answers a fault only where the count rose in it. Beside the adapters over the host stand objects in memory, for tests.
+//! Each trait says what an object tells of its content, where it tells, and counts its faults: a
+//! call answers a fault only where the count rose in it. Beside the adapters over the host stand
+//! objects in memory, for tests.
 #![tactic(auto)]
 
 mod book;

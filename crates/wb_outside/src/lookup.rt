@@ -1,4 +1,5 @@
-// What the objects in memory have in common: a text by its name, and counts that stay at their last value.
+// What the objects in memory have in common: a text by its name, and counts that stay at their last
+// value.
 ghost use Rattle.std.specs.Prelude.{◌≡◌, ◌≤◌, length, take, IfOk};
 ghost use Rattle.std.specs.Option.{option_map};
 ghost use Rattle.wb_outside.specs.Causes.{raised};

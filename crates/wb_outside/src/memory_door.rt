@@ -11,8 +11,9 @@ use crate::sink::Failed;
 use std::alloc::Global;
 use std::marker::Model;
 
-/// A door in memory. The calls of `listen`, `accept`, `read` and `write` whose numbers are listed fail, and so do an `accept` for which no connection is left and a
-/// `write` of a piece that is longer than the room left.
+/// A door in memory. The calls of `listen`, `accept`, `read` and `write` whose numbers are listed
+/// fail, and so do an `accept` for which no connection is left and a `write` of a piece that is
+/// longer than the room left.
 #[derive(Drop)]
 pub struct MemoryDoor {
     book: Book,
@@ -50,9 +51,10 @@ impl Model for MemoryDoor {
 }
 
 impl MemoryDoor {
-    /// A door to which these connections come, in their order, with the bytes that each sends. One read gives at most `cut` bytes. There is room for so many
-    /// written bytes in all, whose memory is taken here. `failing` lists the numbers of the calls that fail, from 1; `finish` is not counted. The one refusal is
-    /// `Memory`.
+    /// A door to which these connections come, in their order, with the bytes that each sends. One
+    /// read gives at most `cut` bytes. There is room for so many written bytes in all, whose memory
+    /// is taken here. `failing` lists the numbers of the calls that fail, from 1; `finish` is not
+    /// counted. The one refusal is `Memory`.
     pub fn new(
         alloc: Global,
         connections: Vec<Vec<u8>>,
@@ -71,7 +73,8 @@ impl MemoryDoor {
         ensures cut { IfOk result (λ d. d.cut ≡ cut) }
         ensures left { IfOk result (λ d. d.left ≡ room) }
         ensures failing { IfOk result (λ d. d.failing ≡ failing.items) }
-        ensures counts { IfOk result (λ d. (d.calls ≡ 0) × (d.taken ≡ 0) × (d.door_faults ≡ 0) × (d.line_faults ≡ 0)) }
+        ensures counts { IfOk result (λ d. (d.calls ≡ 0) × (d.taken ≡ 0) × (d.door_faults ≡ 0)
+            × (d.line_faults ≡ 0)) }
         ensures refused { IfErr result (λ e. e ≡ OutsideError.Memory) }
     {
         let book = Book::new(alloc, connections, room)?;
@@ -138,8 +141,10 @@ impl Door for MemoryDoor {
         requires { self.old.is_open ≡ false }
         ensures ok { OnOk result (IsNext self.old.told self.new.told) }
         ensures err { OnErr result (IsSame self.old.told self.new.told) }
-        ensures opened { OnOk result ((self.new.is_open ≡ true) × (self.new.taken ≡ raised self.old.taken)) }
-        ensures closed { OnErr result ((self.new.is_open ≡ false) × (self.new.taken ≡ self.old.taken)) }
+        ensures opened { OnOk result ((self.new.is_open ≡ true)
+            × (self.new.taken ≡ raised self.old.taken)) }
+        ensures closed { OnErr result ((self.new.is_open ≡ false)
+            × (self.new.taken ≡ self.old.taken)) }
         ensures line { self.new.line_faults ≡ self.old.line_faults }
         ensures cause { HasCause self.old.door_faults self.new.door_faults result }
 

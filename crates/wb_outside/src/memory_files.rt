@@ -11,7 +11,8 @@ use crate::named_text::NamedText;
 use std::alloc::Global;
 use std::marker::Model;
 
-/// Files in memory. The calls whose numbers are listed fail, and so do those for a name that no text has.
+/// Files in memory. The calls whose numbers are listed fail, and so do those for a name that no
+/// text has.
 #[derive(Drop)]
 pub struct MemoryFiles {
     texts: Vec<NamedText>,
@@ -54,7 +55,9 @@ impl MemoryFiles {
 
     // The text of a name, unless this call is one that fails.
     fn find(&self, name: &str) -> Option<&[u8]>
-        ensures { option_map (λ b. b.now) result ≡ (if is_listed self.now.failing self.now.calls then None else text_in self.now.texts name.now) }
+        ensures { option_map (λ b. b.now) result
+            ≡ (if is_listed self.now.failing self.now.calls then None
+            else text_in self.now.texts name.now) }
     {
         if self.failing.contains(&self.calls) {
             None
@@ -66,7 +69,8 @@ impl MemoryFiles {
     // Keeps the name that was asked for, and counts the failure.
     fn note(&mut self, alloc: Global, name: &str, failed: bool) -> Result<(), OutsideError>
         ensures asked { OnOk result (self.new.asked ≡ self.old.asked ++ name.now ∷ []) }
-        ensures count { OnOk result (self.new.faults ≡ (if failed then raised self.old.faults else self.old.faults)) }
+        ensures count { OnOk result (self.new.faults ≡ (if failed then raised self.old.faults
+            else self.old.faults)) }
         ensures unasked { OnErr result (self.new ≡ self.old) }
         ensures later { self.old.faults ≤ self.new.faults }
         ensures memory { IfErr result (λ e. e ≡ OutsideError.Memory) }
@@ -94,15 +98,18 @@ impl Files for MemoryFiles {
 
     fn open_text(&mut self, alloc: Global, name: &str, most: usize) -> Result<Vec<u8>, OutsideError>
         // What the trait asks.
-        ensures bytes { IfOk result (λ v. (t : List ℕ) → text_in self.old.texts name.now ≡ Some t → v.items ≡ take most t) }
+        ensures bytes { IfOk result (λ v. (t : List ℕ) → text_in self.old.texts name.now ≡ Some t →
+            v.items ≡ take most t) }
         ensures there { OnOk result (IsSome (text_in self.old.texts name.now)) }
         ensures cut { IfOk result (λ v. length v.items ≤ most) }
         ensures later { self.old.faults ≤ self.new.faults }
         ensures cause { result ≡ Err OutsideError.Failed → Rose self.old.faults self.new.faults }
 
         // Exactly when the call fails, and what it leaves.
-        ensures fails { result ≢ Err OutsideError.Memory → ((result ≡ Err OutsideError.Failed) ↔ IsTrue (open_fails self.old name.now)) }
-        ensures answered { result ≢ Err OutsideError.Memory → self.new ≡ after_open self.old name.now }
+        ensures fails { result ≢ Err OutsideError.Memory → ((result ≡ Err OutsideError.Failed)
+            ↔ IsTrue (open_fails self.old name.now)) }
+        ensures answered { result ≢ Err OutsideError.Memory →
+            self.new ≡ after_open self.old name.now }
         ensures memory { result ≡ Err OutsideError.Memory → self.new ≡ after_memory self.old }
     {
         self.calls = next_count(self.calls);

@@ -8,7 +8,8 @@ use crate::sink::{Failed, Sink};
 use std::alloc::Global;
 use std::marker::Model;
 
-/// A sink in memory. The calls whose numbers are listed fail, and so do those with a piece that is longer than the room left.
+/// A sink in memory. The calls whose numbers are listed fail, and so do those with a piece that is
+/// longer than the room left.
 #[derive(Drop)]
 pub struct MemorySink {
     bytes: Vec<u8>,
@@ -32,8 +33,8 @@ impl Model for MemorySink {
 impl MemorySink {
     ghost use Rattle.std.specs.Prelude.{[]};
 
-    /// A sink with room for so many bytes in all, whose memory is taken here. `failing` lists the numbers of the calls
-    /// that fail, from 1. The one refusal is `Memory`.
+    /// A sink with room for so many bytes in all, whose memory is taken here. `failing` lists the
+    /// numbers of the calls that fail, from 1. The one refusal is `Memory`.
     pub fn new(alloc: Global, room: usize, failing: Vec<u64>) -> Result<MemorySink, OutsideError>
         ensures bytes { IfOk result (λ s. s.bytes ≡ []) }
         ensures room { IfOk result (λ s. s.room ≡ room) }

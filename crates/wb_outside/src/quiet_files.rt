@@ -51,7 +51,8 @@ impl Files for QuietFiles {
     ghost faults = { λ _. 0 };
 
     fn open_text(&mut self, alloc: Global, name: &str, most: usize) -> Result<Vec<u8>, OutsideError>
-        ensures bytes { IfOk result (λ v. v.items ≡ take most (quiet_text self.old.texts name.now)) }
+        ensures bytes { IfOk result (λ v. v.items
+            ≡ take most (quiet_text self.old.texts name.now)) }
         ensures cut { IfOk result (λ v. length v.items ≤ most) }
         ensures never { result ≢ Err OutsideError.Failed }
         ensures texts { self.new.texts ≡ self.old.texts }

@@ -5,8 +5,9 @@ ghost use Rattle.wb_outside.specs.Quiet.{begins};
 use crate::sink::{Failed, Sink};
 use std::marker::Model;
 
-/// A sink that never fails. It compares each written byte with the next byte of its room, and stores none.
-/// It tells what was written as long as that is a front of its room, and nothing from the first byte on that is not.
+/// A sink that never fails. It compares each written byte with the next byte of its room, and
+/// stores none. It tells what was written as long as that is a front of its room, and nothing from
+/// the first byte on that is not.
 #[derive(Drop)]
 pub struct QuietSink {
     room: Vec<u8>,

@@ -2,3 +2,4 @@ pub mod Delivery
 pub mod Numbers
 pub mod Reading
 pub mod Runs
+pub mod Serving

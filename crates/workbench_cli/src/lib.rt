@@ -1,7 +1,10 @@
-//! All that the program does: its words and the top call `workbench`, over any files and places to write to.
+//! All that the program does: its words and the call `workbench`, over any files, any store, any door
+//! and any places to write to; and `run_command`, which is all of it but serving.
 #![tactic(auto)]
 
+mod program;
 mod reading;
+mod serving;
 #[cfg(test)]
 mod tests;
 mod top;
@@ -9,5 +12,7 @@ mod top;
 mod whole_files;
 mod words;
 
-pub use top::{Status, workbench};
+pub use program::workbench;
+pub use serving::{LARGEST_PORT, MOST_CONNECTIONS};
+pub use top::{Status, run_command};
 pub use words::read_number;

@@ -3,6 +3,7 @@ ghost use Rattle.wb_outside.specs.Texts.{AreDistinct};
 
 use super::*;
 use extraction_coproduct::Work;
+use result_keeper::QuietKeeper;
 use std::alloc::{AllocError, Global};
 use std::test::Fail;
 use wb_outside::{MemoryFiles, MemorySink, NamedText, OutsideError};
@@ -52,7 +53,8 @@ fn words_of(alloc: Global, line: &str) -> Result<Vec<String>, AllocError> {
     Ok(words)
 }
 
-// The program over one file, which is named `file`. The calls with these numbers fail.
+// The program over one file, which is named `file`, and an empty store. The calls with these
+// numbers fail.
 pub fn run_program(
     alloc: Global,
     line: &str,
@@ -65,8 +67,17 @@ pub fn run_program(
     let mut files = MemoryFiles::new(alloc, texts, failing_reads.to_vec(alloc)?);
     let mut out = MemorySink::new(alloc, ROOM, failing_writes.to_vec(alloc)?)?;
     let mut err = MemorySink::new(alloc, ROOM, Vec::new(alloc))?;
+    let mut keeper = QuietKeeper::new(alloc);
     let mut work = Work { tables: 0 };
-    let status = workbench(alloc, &words, &mut files, &mut out, &mut err, &mut work);
+    let status = run_command(
+        alloc,
+        &words,
+        &mut files,
+        &mut keeper,
+        &mut out,
+        &mut err,
+        &mut work,
+    );
     Ok(Run {
         code: status.code,
         out: out.bytes().to_vec(alloc)?,
@@ -112,18 +123,35 @@ fn other_words_are_refused(rt: HostRuntime) -> Result<(), Fail> {
         "chek file",
         "check -file",
         "check file file",
-        "add file file",
-        "show file",
-        "names",
+        "add",
+        "add file",
+        "add file -file",
+        "add file file file",
+        "show",
+        "show file file",
+        "names file",
         "compute",
         "compute file --fast",
-        "compute file --fresh",
+        "compute --fresh",
+        "trees file --fresh",
+        "audit file",
+        "migrate file",
         "detail file",
         "detail file -t",
         "detail file [xi] [xi]",
-        "act file [xi] t",
-        "multiply file [xi] t t",
-        "sample 4",
+        "act file [xi]",
+        "act file [xi] t --recenter",
+        "act file [xi] t t",
+        "act file -t t",
+        "act file [xi] -t",
+        "multiply file [xi] t",
+        "multiply file [xi] t -t",
+        "multiply file [xi] t t --recentre",
+        "sample",
+        "sample 04",
+        "sample 1000001",
+        "sample -1",
+        "sample 4 4",
         "serve 1 8080",
     ] {
         let run = run_program(rt.alloc(), line, PHI4_2D.as_bytes(), &[], &[])?;
@@ -164,28 +192,44 @@ fn commands_take_the_names_of_projects(rt: HostRuntime) -> Result<(), Fail> {
         ("trees _pam", 2),
         ("trees Pam", 2),
         ("trees pam.toml", 2),
-        ("trees pam", 3),
-        ("trees 2d_pam-", 3),
-        ("trees a2345678901234567890123456789012", 3),
+        ("trees pam", 10),
+        ("trees 2d_pam-", 10),
+        ("trees a2345678901234567890123456789012", 10),
         ("trees a23456789012345678901234567890123", 2),
-        ("compute pam", 3),
-        ("compute Pam", 2),
-        ("detail pam [xi]", 3),
+        ("compute pam", 10),
+        ("compute pam --fresh", 10),
+        ("compute Pam --fresh", 2),
+        ("show pam", 10),
+        ("remove pam", 10),
+        ("add pam file", 0),
+        ("add pam other", 3),
+        ("add Pam file", 2),
+        ("detail pam [xi]", 10),
         ("detail Pam [xi]", 2),
+        ("act pam [xi] file", 10),
+        ("act pam [xi] file --recentre", 10),
+        ("act pam [xi] other", 3),
+        ("act Pam [xi] file", 2),
+        ("multiply pam [xi] file file", 10),
+        ("multiply pam [xi] file other", 3),
+        ("multiply Pam [xi] file file", 2),
+        ("names", 0),
+        ("audit", 0),
+        ("migrate", 0),
     ] {
         let run = run_program(rt.alloc(), line, PHI4_2D.as_bytes(), &[], &[])?;
-        assert_eq!(rt; (run.code, run.out.len()), (code, 0), "{line}");
+        assert_eq!(rt; (run.code, run.err.is_empty()), (code, code == 0), "{line}");
     }
     Ok(())
 }
 
 #[test]
-fn files_without_a_rule_to_complete(rt: HostRuntime) -> Result<(), Fail> {
+fn files_that_are_not_added(rt: HostRuntime) -> Result<(), Fail> {
     for (text, err) in [
         ("scalin", "refused 4 NotToml\n"),
         (KPZ, "refused 6 NotSubcritical u xi 1/2 1/2\n"),
     ] {
-        let run = run_program(rt.alloc(), "trees file", text.as_bytes(), &[], &[])?;
+        let run = run_program(rt.alloc(), "add file file", text.as_bytes(), &[], &[])?;
         assert_eq!(rt; run.out.len(), 0);
         assert_eq!(rt; run.err.as_slice(), err.as_bytes());
     }

@@ -3,7 +3,7 @@ use Rattle.std.proofs.Common.{◌≡◌, ◌≢◌, ◌⊎◌, inl, inr, ◌<◌
 use Rattle.workbench_core.specs.declared.answer.Output.{Output}
 use Rattle.workbench_core.specs.declared.refusal.Refusal.{Refusal}
 use Rattle.workbench_core.specs.declared.refusal.Refusal.TheVariants.{FileFault, Memory}
-use Rattle.workbench_core.specs.Answers.{Answer, of_output, of_refusal, of_result, IsPrinted, file_at}
+use Rattle.workbench_core.specs.Answers.{of_output, of_refusal, of_result, IsPrinted, file_at}
 
 module _ {V : Type 0} (view : V → List ℕ) (answers : Result (List ℕ) Refusal → Type 0) where
   pub given : (text : Result V Refusal) (result : Result Output Refusal) → IfOk result (λ o. IfOk text (λ v. of_output o ≡ of_result (Ok (view v)))) → is_ok result ≡ is_ok text

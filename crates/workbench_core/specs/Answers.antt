@@ -20,12 +20,14 @@ use Rattle.workbench_core.specs.declared.answer.Output.{Output}
 use Rattle.workbench_core.specs.declared.fixed.FixedRefusal.{FixedRefusal}
 use Rattle.workbench_core.specs.declared.refusal.Refusal.{Refusal}
 use Rattle.workbench_core.specs.declared.request.Request.{Request}
-use Rattle.workbench_core.specs.declared.request.Request.TheVariants.{Check, Compute, Trees, Detail}
+use Rattle.workbench_core.specs.declared.request.Request.TheVariants.{Check, Compute, Trees, Detail, Act, Multiply, Sample}
+use Rattle.workbench_core.specs.Characters.{IsActOf, IsMultiplyOf}
 use Rattle.workbench_core.specs.Check.{IsChecked}
 use Rattle.workbench_core.specs.Compute.{Computing, IsComputed}
 use Rattle.workbench_core.specs.Detail.{IsDetailOf}
 use Rattle.workbench_core.specs.Fixed.{fixed_status, fixed_line}
 use Rattle.workbench_core.specs.Refusals.{status_of, line_of}
+use Rattle.workbench_core.specs.Sample.{IsSampled}
 use Rattle.workbench_core.specs.Trees.{IsTreesOf}
 
 pub record Answer : Type 0 where
@@ -70,6 +72,11 @@ IsGiven (Compute name) files a = IsPrinted of_computing (IsComputed (file_at fil
 IsGiven (Trees name) files a = IsPrinted of_result (IsTreesOf (file_at files 0)) a
 IsGiven (Detail name tree) files a =
     IsPrinted of_result (IsDetailOf (file_at files 0) tree) a
+IsGiven (Act name tree table recentre) files a =
+    IsPrinted of_result (IsActOf (file_at files 0) tree (file_at files 1) recentre) a
+IsGiven (Multiply name tree first second) files a =
+    IsPrinted of_result (IsMultiplyOf (file_at files 0) tree (file_at files 1) (file_at files 2)) a
+IsGiven (Sample number) files a = IsPrinted of_result (IsSampled number) a
 
 pub record IsComputedWithin (file : List ℕ) (before after : ℕ) : Type 0 where
   pub computing : Computing

@@ -1,7 +1,9 @@
 -- What the check of a file answers.
 --   IsAccepted eq rule r == r is the check text of the rule with its gap
---   IsVerdict eq r == r is that for the rule with which eq begins, or the refusal of its normal rule
---   IsChecked file r == r is the verdict on the equation that the file writes down, or the refusal of a file that writes down none
+--   IsVerdict eq r == r is that for the rule with which eq begins, or the refusal of its normal
+--       rule
+--   IsChecked file r == r is the verdict on the equation that the file writes down, or the refusal
+--       of a file that writes down none
 use Rattle.std.specs.Prelude.{◌≡◌, ℕ, ℤ, List, Result, Ok}
 use Rattle.equations.specs.declared.equation.Equation.{Equation}
 use Rattle.normal_rule.specs.declared.rule.Rule.{Rule}

@@ -1,5 +1,6 @@
 pub mod Answers
 pub mod Base
+pub mod Characters
 pub mod Check
 pub mod CheckText
 pub mod Completed
@@ -7,8 +8,10 @@ pub mod Compute
 pub mod Detail
 pub mod Files
 pub mod Fixed
+pub mod GivenTable
 pub mod GivenTree
 pub mod Refusals
 pub mod Requests
+pub mod Sample
 pub mod TreeList
 pub mod Trees

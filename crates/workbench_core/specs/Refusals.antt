@@ -1,5 +1,6 @@
 -- Refusals: their statuses and their lines.
---   reason_text r, which_text w == the words for what is wrong with an entry, and for what is limited
+--   reason_text r, which_text w == the words for what is wrong with an entry, and for what is
+--       limited
 --   of_file f == the refusal of a file that writes down no equation
 --   of_stage j what == the refusal where a stage of the completion, from 0, is too large
 --   of_completion f == the refusal of a rule that has no completion
@@ -9,7 +10,8 @@
 --   reason_of_tree r == the words for why a tree text is refused
 --   field text == a space and the text
 --   fields_of r == what the line says besides the status and the name
---   line_of r == the line `refused STATUS NAME FIELD..`; `Differs` has its stored and computed values in lines of their own
+--   line_of r == the line `refused STATUS NAME FIELD..`; `Differs` has its stored and computed
+--       values in lines of their own
 use Rattle.std.specs.Prelude.{ℕ, List, [], codes, decimal, ◌++◌, Option, None, Some}
 use Rattle.std.specs.Fmt.{signed_decimal}
 use Rattle.equation_document.specs.declared.fault.Reason.{Reason}
@@ -159,7 +161,8 @@ reason_of_tree NotPositive = codes "NotPositive"
 abbrev pub fields_of : Refusal → List ℕ
 fields_of (Malformed entry reason) = field entry ++ field (reason_text reason)
 fields_of (Limit which count) = field (which_text which) ++ field (signed_decimal count)
-fields_of (NotSubcritical kernel node left right) = field kernel ++ field node ++ field left ++ field right
+fields_of (NotSubcritical kernel node left right) = field kernel ++ field node ++ field left
+    ++ field right
 fields_of (RuleTooLarge stage) = field (decimal stage)
 fields_of (TooManyTrees stage) = field (decimal stage)
 fields_of (TreeTooLarge stage) = field (decimal stage)
@@ -167,7 +170,8 @@ fields_of (ZeroDegree tree) = field tree
 fields_of (CoefficientTooLarge tree quantity) = field tree ++ field quantity
 fields_of (NoProject name) = field name
 fields_of (StoredRow context tree) = field tree
-fields_of (Differs tree stored computed) = field tree ++ codes "\nstored" ++ field stored ++ codes "\ncomputed" ++ field computed
+fields_of (Differs tree stored computed) = field tree ++ codes "\nstored" ++ field stored
+    ++ codes "\ncomputed" ++ field computed
 fields_of (TreeRefused reason) = field (reason_of_tree reason)
 fields_of (TableRefused line) = field (decimal line)
 fields_of (TooManyNoises count) = field (decimal count)

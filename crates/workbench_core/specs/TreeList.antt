@@ -2,8 +2,10 @@
 --   count_text n == the line `trees N`
 --   row_text i degree tree == the line `I DEGREE TREE`
 --   IsRow ty i t text == text is the line of the tree t with the number i
---   AreRows ty i ts text == text is the lines of the trees ts, which are numbered from i, one after the other
---   IsTreeList ty ts text == text is the line of their number, and the lines of the trees, numbered from 1
+--   AreRows ty i ts text == text is the lines of the trees ts, which are numbered from i, one after
+--       the other
+--   IsTreeList ty ts text == text is the line of their number, and the lines of the trees, numbered
+--       from 1
 use Rattle.std.specs.Prelude.{◌≡◌, ℕ, ◌+◌, unsigned_abs, List, [], ◌∷◌, ◌++◌, length, codes, decimal}
 use Rattle.degree_numbers.specs.declared.types.Types.{Types}
 use Rattle.degree_numbers.specs.Printing.{IsDegreeText}
@@ -21,7 +23,8 @@ pub record IsRow (ty : Types) (i : ℕ) (t : Plain) (text : List ℕ) : Type 0 w
 
 abbrev pub AreRows : Types → ℕ → List Plain → List ℕ → Type 0
 AreRows ty i [] text = text ≡ []
-AreRows ty i (t ∷ ts) text = (row : List ℕ) × (rest : List ℕ) × IsRow ty i t row × AreRows ty (i + 1) ts rest × (text ≡ row ++ rest)
+AreRows ty i (t ∷ ts) text = (row : List ℕ) × (rest : List ℕ) × IsRow ty i t row
+    × AreRows ty (i + 1) ts rest × (text ≡ row ++ rest)
 
 abbrev pub count_text : ℕ → List ℕ
 count_text n = codes "trees " ++ decimal n ++ codes "\n"

@@ -2,16 +2,21 @@
 ghost use Rattle.std.specs.Prelude.{◌≡◌, ◌≢◌, ◌⊎◌, ◌<◌, map, length, is_ok, Ok, Err, IfOk, IfErr, OnOk};
 ghost use Rattle.workbench_core.specs.declared.refusal.Refusal.{Refusal};
 ghost use Rattle.workbench_core.specs.Answers.{of_output, of_refusal, of_result, of_computing, note_text, file_at, IsPrinted, IsGiven, IsComputedWithin, IsCounted};
+ghost use Rattle.workbench_core.specs.Characters.{IsActOf, IsMultiplyOf};
 ghost use Rattle.workbench_core.specs.Check.{IsChecked};
 ghost use Rattle.workbench_core.specs.Compute.{IsComputed};
 ghost use Rattle.workbench_core.specs.Detail.{IsDetailOf};
+ghost use Rattle.workbench_core.specs.Sample.{IsSampled};
 ghost use Rattle.workbench_core.specs.Trees.{IsTreesOf};
 ghost use Rattle.workbench_core.specs.Requests.{files_of};
 
+use crate::act::act_of;
 use crate::compute::compute_of;
 use crate::detail::detail_of;
+use crate::multiply::multiply_of;
 use crate::refusal::Refusal;
 use crate::request::{Request, Word};
+use crate::samples::sample;
 use crate::trees::trees_of;
 use crate::verdict::check;
 use extraction_coproduct::Work;
@@ -60,6 +65,17 @@ pub fn answer_for(
         Request::Compute { .. } => report_output(alloc, file_at(files, 0), work),
         Request::Trees { .. } => trees_output(alloc, file_at(files, 0)),
         Request::Detail { tree, .. } => detail_output(alloc, file_at(files, 0), tree),
+        Request::Act { tree, recentre, .. } => {
+            act_output(alloc, file_at(files, 0), tree, file_at(files, 1), *recentre)
+        }
+        Request::Multiply { tree, .. } => multiply_output(
+            alloc,
+            file_at(files, 0),
+            tree,
+            file_at(files, 1),
+            file_at(files, 2),
+        ),
+        Request::Sample { number } => sample_output(alloc, *number),
     }
 }
 
@@ -107,6 +123,54 @@ fn detail_output(alloc: Global, file: &[u8], tree: &Word<'_>) -> Result<Output, 
     ensures no_fault { result ≢ Err Refusal.FileFault }
 {
     output_of(alloc, detail_of(alloc, file, bytes_of(tree)))
+}
+
+// What `act` writes.
+fn act_output(
+    alloc: Global,
+    file: &[u8],
+    tree: &Word<'_>,
+    table: &[u8],
+    recentre: bool,
+) -> Result<Output, Refusal>
+    ensures given { IfOk result (λ o. IsPrinted of_result
+        (IsActOf file.now tree.now table.now recentre) (of_output o)) }
+    ensures refused { IfErr result (λ e. (e ≡ Refusal.Memory)
+        ⊎ IsPrinted of_result (IsActOf file.now tree.now table.now recentre) (of_refusal e)) }
+    ensures no_fault { result ≢ Err Refusal.FileFault }
+{
+    output_of(alloc, act_of(alloc, file, bytes_of(tree), table, recentre))
+}
+
+// What `multiply` writes.
+fn multiply_output(
+    alloc: Global,
+    file: &[u8],
+    tree: &Word<'_>,
+    first: &[u8],
+    second: &[u8],
+) -> Result<Output, Refusal>
+    ensures given { IfOk result (λ o. IsPrinted of_result
+        (IsMultiplyOf file.now tree.now first.now second.now) (of_output o)) }
+    ensures refused { IfErr result (λ e. (e ≡ Refusal.Memory)
+        ⊎ IsPrinted of_result (IsMultiplyOf file.now tree.now first.now second.now)
+        (of_refusal e)) }
+    ensures no_fault { result ≢ Err Refusal.FileFault }
+{
+    output_of(
+        alloc,
+        multiply_of(alloc, file, bytes_of(tree), first, second),
+    )
+}
+
+// What `sample` writes.
+fn sample_output(alloc: Global, number: u32) -> Result<Output, Refusal>
+    ensures given { IfOk result (λ o. IsPrinted of_result (IsSampled number) (of_output o)) }
+    ensures refused { IfErr result (λ e. (e ≡ Refusal.Memory)
+        ⊎ IsPrinted of_result (IsSampled number) (of_refusal e)) }
+    ensures no_fault { result ≢ Err Refusal.FileFault }
+{
+    output_of(alloc, sample(alloc, number))
 }
 
 // What a command that gives a text writes.

@@ -26,8 +26,9 @@ pub struct BaseRule {
     pub gap: Degree,
 }
 
-/// The normal rule of an equation and its gap. Refused with `RuleTooLarge` of stage 0 where it has more than 2,000 node types, else with `NotSubcritical` where the
-/// inequality of regularities does not hold.
+/// The normal rule of an equation and its gap. Refused with `RuleTooLarge` of stage 0 where it has
+/// more than 2,000 node types (`MOST_NODE_TYPES`), else with `NotSubcritical` where the inequality
+/// of regularities does not hold.
 pub fn base_rule(alloc: Global, eq: &Equation) -> Result<BaseRule, Refusal>
     requires { IsEquation eq.now }
     ensures base { IfOk result (λ base. IsBase eq.now base.rule) }
@@ -81,7 +82,8 @@ fn node_text(
 ) -> Result<Vec<u8>, AllocError>
     requires types { AreTypes types.now }
     requires known { AreKnown types.now rows.now }
-    ensures { IfOk result (λ v. v.items ≡ node_text_in types.now rows.now failure.now.kernel.0 failure.now.node) }
+    ensures { IfOk result (λ v. v.items ≡ node_text_in types.now rows.now failure.now.kernel.0
+        failure.now.node) }
 {
     let mut text = Vec::new(alloc);
     if let Some(node) = node_at(types, rows, failure.kernel, failure.node) {

@@ -20,8 +20,8 @@ use sqlite_items::Items;
 use std::alloc::Global;
 use tree_pool::{Pool, TreeId};
 
-/// What the commands on the completed rule of a file begin with: its equation, the normal rule, the completed rule, and the listed trees of that, in order, as trees
-/// of the pool.
+/// What the commands on the completed rule of a file begin with: its equation, the normal rule, the
+/// completed rule, and the listed trees of that, in order, as trees of the pool.
 #[derive(Drop)]
 pub struct Completed<'a> {
     pub eq: Equation,
@@ -31,8 +31,9 @@ pub struct Completed<'a> {
     pub pool: Pool<'a>,
 }
 
-/// The completed rule of a file, with its listed trees in a new pool over this arena; or why there is none: the file writes down no equation, its normal rule is too
-/// large or not subcritical, a stage of the completion is too large, or the completed rule has a tree of degree 0.
+/// The completed rule of a file, with its listed trees in a new pool over this arena; or why there
+/// is none: the file writes down no equation, its normal rule is too large or not subcritical, a
+/// stage of the completion is too large, or the completed rule has a tree of degree 0.
 pub fn complete_file<'a>(
     alloc: Global,
     arena: &'a Bump,
@@ -74,8 +75,10 @@ fn complete_base<'a>(
 ) -> Result<Completed<'a>, Refusal>
     requires equation { IsEquation eq }
     requires base { IsBase eq base }
-    ensures completed { IfOk result (λ c. IsForCompletion IsItself eq base (Ok (completed_rule c))) }
-    ensures refused { IfErr result (λ e. (e ≡ Refusal.Memory) ⊎ IsForCompletion IsItself eq base (Err e)) }
+    ensures completed { IfOk result (λ c. IsForCompletion IsItself eq base
+        (Ok (completed_rule c))) }
+    ensures refused { IfErr result (λ e. (e ≡ Refusal.Memory)
+        ⊎ IsForCompletion IsItself eq base (Err e)) }
     ensures no_fault { result ≢ Err Refusal.FileFault }
     ensures facts { IfOk result HasFacts }
 {
@@ -101,7 +104,8 @@ fn complete_base<'a>(
 fn pass_zero(alloc: Global, pool: &Pool<'_>, zero: Option<TreeId>) -> Result<(), Refusal>
     requires { (id : TreeId) → zero ≡ Some id → id.0 < length pool.now.trees }
     ensures none { OnOk result (zero ≡ None) }
-    ensures refused { IfErr result (λ e. (e ≡ Refusal.Memory) ⊎ ((id : TreeId) × (zero ≡ Some id) × (e ≡ Refusal.ZeroDegree (tree_text pool.now.types (tree_at pool.now id.0))))) }
+    ensures refused { IfErr result (λ e. (e ≡ Refusal.Memory) ⊎ ((id : TreeId) × (zero ≡ Some id)
+        × (e ≡ Refusal.ZeroDegree (tree_text pool.now.types (tree_at pool.now id.0))))) }
     ensures no_fault { result ≢ Err Refusal.FileFault }
 {
     let Some(id) = zero else {

@@ -2,9 +2,6 @@
 ghost use Rattle.std.specs.Prelude.{◌≡◌, ◌≢◌, ◌⊎◌, ◌≤◌, ◌<◌, length, Ok, Err, IfOk, IfErr, MatchOption};
 ghost use Rattle.limits.specs.declared.TheConstants.{MOST_PAIRED_NOISES};
 ghost use Rattle.equations.specs.Accepted.{IsEquation};
-ghost use Rattle.plain_trees.specs.Canon.{IsCanonical};
-ghost use Rattle.plain_trees.specs.Degree.{HasTypes};
-ghost use Rattle.plain_trees.specs.View.{plain};
 ghost use Rattle.tree_pool.specs.Content.{tree_at, IsGrown};
 ghost use Rattle.cutting_sizes.specs.Bounds.{IsFit};
 ghost use Rattle.recentring_coproduct.specs.Held as held;
@@ -13,13 +10,12 @@ ghost use Rattle.gaussian_pairings.specs.Pairings.{noise_edges, pairs_of, ArePai
 ghost use Rattle.workbench_core.specs.Detail.{noise_count, IsTooNoisy, IsDetailed, IsDetailIn, IsDetailOf};
 
 use crate::compute::{tables_over, too_large};
+use crate::given_tree::given_tree;
 use crate::refusal::Refusal;
 use bumpalo::Bump;
 use equation_file::read_equation;
 use equations::Equation;
 use gaussian_pairings::{Pairing, PairingError, pairings};
-use limits::MOST_LISTED_DECORATIONS;
-use plain_trees::{Tree, read_tree};
 use recentring_coproduct::{CoproductError, Recentrer, RightTerm};
 use sqlite_items::Items;
 use std::alloc::Global;
@@ -29,10 +25,11 @@ use tree_values::ValuesError;
 
 /// The detail of the tree with this text, for the equation of a file; or why there is none: the
 /// file writes down no equation; the text is not that of a tree over its types with at most 24
-/// edges and a decoration sum of at most 64; the tree has more than 12 noise edges; or a quantity
-/// passes 2^127-1, of which the first one is named, in this order: a coefficient of the extraction
-/// and of the recentring coproduct, the mass of the twisted antipode and of the constant, and for
-/// each unknown the mass of the elementary differential and its denominator. No rule is built.
+/// edges (`MOST_EDGES`) and a decoration sum of at most 64 (`MOST_LISTED_DECORATIONS`); the tree
+/// has more than 12 noise edges (`MOST_PAIRED_NOISES`); or a quantity passes 2^127-1, of which the
+/// first one is named, in this order: a coefficient of the extraction and of the recentring
+/// coproduct, the mass of the twisted antipode and of the constant, and for each unknown the mass
+/// of the elementary differential and its denominator. No rule is built.
 pub fn detail_of(alloc: Global, file: &[u8], tree: &[u8]) -> Result<Vec<u8>, Refusal>
     ensures text { IfOk result (λ v. IsDetailOf file.now tree.now (Ok v.items)) }
     ensures refused { IfErr result (λ e.
@@ -46,7 +43,6 @@ pub fn detail_of(alloc: Global, file: &[u8], tree: &[u8]) -> Result<Vec<u8>, Ref
 }
 
 // The same for an equation.
-#[tactic(auto, using(crate::proofs::DetailLemmas::given_trees))]
 fn detail_in(alloc: Global, eq: &Equation, text: &[u8]) -> Result<Vec<u8>, Refusal>
     requires { IsEquation eq.now }
     ensures text { IfOk result (λ v. IsDetailIn eq.now text.now (Ok v.items)) }
@@ -54,28 +50,30 @@ fn detail_in(alloc: Global, eq: &Equation, text: &[u8]) -> Result<Vec<u8>, Refus
         (e ≡ Refusal.Memory) ⊎ IsDetailIn eq.now text.now (Err e)) }
     ensures no_fault { result ≢ Err Refusal.FileFault }
 {
-    match read_tree(alloc, &eq.types, text, MOST_LISTED_DECORATIONS) {
-        Ok(tree) => detail_of_tree(alloc, eq, &tree),
-        Err(error) => Err(Refusal::of_tree_error(error)),
-    }
+    let arena = Bump::new(alloc);
+    let given = given_tree(alloc, &arena, &eq.types, text)?;
+    detail_at(alloc, &arena, eq, given.pool, given.id)
 }
 
-// The same for a tree that is not too large.
-fn detail_of_tree(alloc: Global, eq: &Equation, tree: &Tree) -> Result<Vec<u8>, Refusal>
+// The same for a tree of a pool, which is given up.
+fn detail_at<'a>(
+    alloc: Global,
+    arena: &'a Bump,
+    eq: &Equation,
+    pool: Pool<'a>,
+    id: TreeId,
+) -> Result<Vec<u8>, Refusal>
     requires equation { IsEquation eq.now }
-    requires types { HasTypes eq.now.types (plain tree.now) }
-    requires canonical { IsCanonical (plain tree.now) }
-    requires fit { IsFit (plain tree.now) }
-    ensures text { IfOk result (λ v. IsDetailed eq.now (plain tree.now) (Ok v.items)) }
+    requires types { pool.types ≡ eq.now.types }
+    requires known { id.0 < length pool.trees }
+    requires fit { IsFit (tree_at pool id.0) }
+    ensures text { IfOk result (λ v. IsDetailed eq.now (tree_at pool.entry id.0) (Ok v.items)) }
     ensures refused { IfErr result (λ e.
-        (e ≡ Refusal.Memory) ⊎ IsDetailed eq.now (plain tree.now) (Err e)) }
+        (e ≡ Refusal.Memory) ⊎ IsDetailed eq.now (tree_at pool.entry id.0) (Err e)) }
     ensures no_fault { result ≢ Err Refusal.FileFault }
 {
-    let arena = Bump::new(alloc);
-    let mut pool = Pool::new(alloc, &arena, &eq.types)?;
-    let id = pool.intern_tree(alloc, tree)?;
     let pairings = pairings_of(alloc, eq, &pool, id)?;
-    detail_in_pool(alloc, &arena, eq, pool, id, pairings)
+    detail_in_pool(alloc, arena, eq, pool, id, pairings)
 }
 
 // The pairings of a tree.
@@ -127,7 +125,7 @@ fn recentring_of<'a>(
     }
 }
 
-// The detail of a tree of a pool, which is given up.
+// The same where the pairings of the tree are listed.
 fn detail_in_pool<'a>(
     alloc: Global,
     arena: &'a Bump,

@@ -79,7 +79,8 @@ fn put_number(number: u64, line: &mut Vec<u8>) -> Result<(), AllocError>
 }
 
 fn put_limit(which: Which, count: i64, line: &mut Vec<u8>) -> Result<(), AllocError>
-    ensures { OnOk result (line.new.items ≡ line.old.items ++ field (which_text which) ++ field (signed_decimal count)) }
+    ensures { OnOk result (line.new.items ≡ line.old.items ++ field (which_text which)
+        ++ field (signed_decimal count)) }
 {
     put_text(which_text(which), line)?;
     put_text(Buffer::new().format(count).as_bytes(), line)
@@ -93,7 +94,8 @@ fn put_two(first: &[u8], second: &[u8], line: &mut Vec<u8>) -> Result<(), AllocE
 }
 
 fn put_numbered(name: &[u8], number: u64, line: &mut Vec<u8>) -> Result<(), AllocError>
-    ensures { OnOk result (line.new.items ≡ line.old.items ++ field (name.now ++ field (decimal number))) }
+    ensures { OnOk result (line.new.items ≡ line.old.items
+        ++ field (name.now ++ field (decimal number))) }
 {
     put_text(name, line)?;
     put_number(number, line)
@@ -117,7 +119,8 @@ fn put_reason(reason: TreeReason, line: &mut Vec<u8>) -> Result<(), AllocError>
 
 // A stored value and the computed one, in lines of their own.
 fn put_values(stored: &[u8], computed: &[u8], line: &mut Vec<u8>) -> Result<(), AllocError>
-    ensures { OnOk result (line.new.items ≡ line.old.items ++ codes "\nstored" ++ field stored.now ++ codes "\ncomputed" ++ field computed.now) }
+    ensures { OnOk result (line.new.items ≡ line.old.items ++ codes "\nstored" ++ field stored.now
+        ++ codes "\ncomputed" ++ field computed.now) }
 {
     line.extend_from_slice(b"\nstored")?;
     put_text(stored, line)?;

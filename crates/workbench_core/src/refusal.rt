@@ -17,9 +17,10 @@ pub enum TreeReason {
     TreeText { place: u64 },
     /// The name at this byte is that of no type.
     UnknownType { place: u64 },
-    /// The tree has more than 24 edges.
+    /// The tree has more than 24 edges (`MOST_EDGES`).
     TooManyEdges { count: u64 },
-    /// The entries of the tree's decorations have a sum of more than 64.
+    /// The entries of the tree's decorations have a sum of more than 64
+    /// (`MOST_LISTED_DECORATIONS`).
     TooManyDecorations { total: u32 },
     /// The text is not the one that is printed for its tree.
     NotCanonical,
@@ -27,8 +28,8 @@ pub enum TreeReason {
     NotPositive,
 }
 
-/// Why a command is refused. Trees, kernels, node types, degrees, names, quantities, contexts and values are texts as they are printed; counts, places, lines and
-/// stages are numbers.
+/// Why a command is refused. Trees, kernels, node types, degrees, names, quantities, contexts and
+/// values are texts as they are printed; counts, places, lines and stages are numbers.
 #[derive(Debug, Drop)]
 pub enum Refusal {
     /// A file could not be read.
@@ -47,23 +48,27 @@ pub enum Refusal {
         which: Which,
         count: i64,
     },
-    /// The inequality of regularities fails: `left` is the regularity of the kernel, `right` the standard part that it has to be smaller than, at the first
-    /// node type of the first kernel where it is not.
+    /// The inequality of regularities fails: `left` is the regularity of the kernel, `right` the
+    /// standard part that it has to be smaller than, at the first node type of the first kernel
+    /// where it is not.
     NotSubcritical {
         kernel: Items<u8>,
         node: Items<u8>,
         left: Items<u8>,
         right: Items<u8>,
     },
-    /// The rule of this stage of the completion, from 0, has more than 2,000 node types. Stage 0 is the normal rule.
+    /// The rule of this stage of the completion, from 0, has more than 2,000 node types
+    /// (`MOST_NODE_TYPES`). Stage 0 is the normal rule.
     RuleTooLarge {
         stage: u32,
     },
-    /// More than 4,000 listed trees of this stage have at most 24 edges and a decoration sum of at most 64.
+    /// More than 4,000 listed trees (`MOST_LISTED_TREES`) of this stage have at most 24 edges
+    /// (`MOST_EDGES`) and a decoration sum of at most 64 (`MOST_LISTED_DECORATIONS`).
     TooManyTrees {
         stage: u32,
     },
-    /// Some tree that would be listed at this stage, or would be of degree 0, has more than 24 edges or a decoration sum of more than 64.
+    /// Some tree that would be listed at this stage, or would be of degree 0, has more than 24
+    /// edges (`MOST_EDGES`) or a decoration sum of more than 64 (`MOST_LISTED_DECORATIONS`).
     TreeTooLarge {
         stage: u32,
     },
@@ -103,7 +108,7 @@ pub enum Refusal {
     TableRefused {
         line: u64,
     },
-    /// The tree has more than 12 noise edges.
+    /// The tree has more than 12 noise edges (`MOST_PAIRED_NOISES`).
     TooManyNoises {
         count: u32,
     },
@@ -115,7 +120,8 @@ pub enum Refusal {
     Memory,
     /// The store is one of version 1.
     OldStore,
-    /// This tree is met on the way, and has more than 24 edges or a decoration sum of more than 64.
+    /// This tree is met on the way, and has more than 24 edges (`MOST_EDGES`) or a decoration sum
+    /// of more than 64 (`MOST_LISTED_DECORATIONS`).
     MetTooLarge {
         tree: Items<u8>,
     },

@@ -39,7 +39,8 @@ fn push_rows(eq: &Equation, rows: &[RuleRow], text: &mut Vec<u8>) -> Result<(), 
     requires equation { IsEquation eq.now }
     requires measured { AreMeasured rows.now }
     requires known { AreKnown eq.now.types rows.now }
-    ensures { OnOk result ((piece : List ℕ) × AreRowTexts eq.now rows.now piece × (text.new.items ≡ text.old.items ++ piece)) }
+    ensures { OnOk result ((piece : List ℕ) × AreRowTexts eq.now rows.now piece
+        × (text.new.items ≡ text.old.items ++ piece)) }
 {
     for row in rows {
         push_row(eq, row, text)?;
@@ -51,7 +52,8 @@ fn push_row(eq: &Equation, row: &RuleRow, text: &mut Vec<u8>) -> Result<(), Allo
     requires equation { IsEquation eq.now }
     requires measured { All IsMeasuredNode row.now.nodes }
     requires known { All (IsKnownNode eq.now.types) row.now.nodes }
-    ensures { OnOk result ((piece : List ℕ) × IsRowText eq.now row.now piece × (text.new.items ≡ text.old.items ++ piece)) }
+    ensures { OnOk result ((piece : List ℕ) × IsRowText eq.now row.now piece
+        × (text.new.items ≡ text.old.items ++ piece)) }
 {
     put_heading(kernel_name(&eq.types, row.kernel), row.nodes.len(), text)?;
     push_lines(eq, row.kernel, row.nodes.as_slice(), text)?;
@@ -86,7 +88,8 @@ fn push_lines(
     requires equation { IsEquation eq.now }
     requires measured { All IsMeasuredNode nodes.now }
     requires known { All (IsKnownNode eq.now.types) nodes.now }
-    ensures { OnOk result ((piece : List ℕ) × AreLines eq.now kernel.0 nodes.now piece × (text.new.items ≡ text.old.items ++ piece)) }
+    ensures { OnOk result ((piece : List ℕ) × AreLines eq.now kernel.0 nodes.now piece
+        × (text.new.items ≡ text.old.items ++ piece)) }
 {
     for node in nodes {
         push_line(eq, kernel, node, text)?;
@@ -104,7 +107,8 @@ fn push_line(
     requires equation { IsEquation eq.now }
     requires measured { IsMeasuredNode node.now }
     requires known { IsKnownNode eq.now.types node.now }
-    ensures { OnOk result ((piece : List ℕ) × IsLine eq.now kernel.0 node.now piece × (text.new.items ≡ text.old.items ++ piece)) }
+    ensures { OnOk result ((piece : List ℕ) × IsLine eq.now kernel.0 node.now piece
+        × (text.new.items ≡ text.old.items ++ piece)) }
 {
     let left = side_text(eq, regularity_of(eq, kernel));
     let right = side_text(eq, right_side(eq, kernel, node));

@@ -14,10 +14,12 @@ use itoa::Buffer;
 use std::alloc::{AllocError, Global};
 use tree_pool::{Pool, TreeId};
 
-/// The tree list: `trees N`, and for each tree a line with its number, from 1, its degree and its text. Refused only for want of memory.
+/// The tree list: `trees N`, and for each tree a line with its number, from 1, its degree and its
+/// text. Refused only for want of memory.
 pub fn tree_list(alloc: Global, pool: &Pool<'_>, ids: &[TreeId]) -> Result<Vec<u8>, Refusal>
     requires { All (λ id. id.0 < length pool.now.trees) ids.now }
-    ensures text { IfOk result (λ v. IsTreeList pool.now.types (trees_of pool.now ids.now) v.items) }
+    ensures text { IfOk result (λ v. IsTreeList pool.now.types (trees_of pool.now ids.now)
+        v.items) }
     ensures memory { IfErr result (λ e. e ≡ Refusal.Memory) }
 {
     let mut text = Vec::new(alloc);
@@ -41,7 +43,9 @@ fn put_rows(
     text: &mut Vec<u8>,
 ) -> Result<(), Refusal>
     requires { All (λ id. id.0 < length pool.now.trees) ids.now }
-    ensures rows { OnOk result ((piece : List ℕ) × AreRows pool.now.types 1 (trees_of pool.now ids.now) piece × (text.new.items ≡ text.old.items ++ piece)) }
+    ensures rows { OnOk result ((piece : List ℕ)
+        × AreRows pool.now.types 1 (trees_of pool.now ids.now) piece
+        × (text.new.items ≡ text.old.items ++ piece)) }
     ensures memory { IfErr result (λ e. e ≡ Refusal.Memory) }
 {
     for (i, id) in ids.iter().enumerate() {
@@ -59,7 +63,9 @@ fn put_row(
     text: &mut Vec<u8>,
 ) -> Result<(), Refusal>
     requires { id.0 < length pool.now.trees }
-    ensures row { OnOk result ((piece : List ℕ) × IsRow pool.now.types number (tree_at pool.now id.0) piece × (text.new.items ≡ text.old.items ++ piece)) }
+    ensures row { OnOk result ((piece : List ℕ)
+        × IsRow pool.now.types number (tree_at pool.now id.0) piece
+        × (text.new.items ≡ text.old.items ++ piece)) }
     ensures memory { IfErr result (λ e. e ≡ Refusal.Memory) }
 {
     let tree = tree_text(alloc, pool, id)?;
@@ -91,7 +97,8 @@ pub fn tree_text(alloc: Global, pool: &Pool<'_>, id: TreeId) -> Result<Vec<u8>, 
 // The text of the degree of a tree.
 fn degree_text(pool: &Pool<'_>, id: TreeId) -> SmallText
     requires { id.0 < length pool.now.trees }
-    ensures { IsDegreeText (degree_of pool.now.types (tree_at pool.now id.0)) (unsigned_abs pool.now.types.units.den) result }
+    ensures { IsDegreeText (degree_of pool.now.types (tree_at pool.now id.0))
+        (unsigned_abs pool.now.types.units.den) result }
 {
     let mut text = SmallText::new();
     print_degree(pool.degree(id), pool.types().units, &mut text);

@@ -8,7 +8,8 @@ use crate::tree_list::tree_list;
 use bumpalo::Bump;
 use std::alloc::Global;
 
-/// The tree list of a file: the trees of negative degree of the completed rule of its equation, in order, each with its degree; or why there is no completed rule.
+/// The tree list of a file: the trees of negative degree of the completed rule of its equation, in
+/// order, each with its degree; or why there is no completed rule.
 pub fn trees_of(alloc: Global, file: &[u8]) -> Result<Vec<u8>, Refusal>
     ensures text { IfOk result (λ v. IsTreesOf file.now (Ok v.items)) }
     ensures refused { IfErr result (λ e. (e ≡ Refusal.Memory) ⊎ IsTreesOf file.now (Err e)) }

@@ -8,7 +8,8 @@ use Rattle.character_tables.proofs.reading.read_lines.Goals as goal
 abbrev blank : Bor (List ℕ)
 blank = record { ref_ptr = (0, 0); now = [] }
 
-more : (lines : List (Bor (List ℕ))) (i : ℕ) → i < length lines → take (i + 1) (map (λ s. s.now) lines) ≡ take i (map (λ s. s.now) lines) ++ (get_or lines i blank).now ∷ []
+more : (lines : List (Bor (List ℕ))) (i : ℕ) → i < length lines →
+    take (i + 1) (map (λ s. s.now) lines) ≡ take i (map (λ s. s.now) lines) ++ (get_or lines i blank).now ∷ []
 more lines i lt = map_more (λ (s : Bor (List ℕ)). s.now) lines i (get_or lines i blank) lt (get_or_default lines i blank (get_or lines i blank) lt)
 
 pub loop-i-init : goal.loop-i-init

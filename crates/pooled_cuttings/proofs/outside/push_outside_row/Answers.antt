@@ -3,15 +3,11 @@ use Rattle.pooled_cuttings.specs.Lines.{opened_terms_in, IsOpenLine, IsExtractLi
 use Rattle.pooled_cuttings.proofs.Groves.{grove_refl, grove_trans}
 use Rattle.pooled_cuttings.proofs.Means.{open_line_grown, extract_line_grown, open_lines_grown, extract_lines_grown}
 use Rattle.pooled_cuttings.proofs.Rows.{row_step, row_end, all_at}
-use Rattle.pooled_cuttings.proofs.Loops.{outside_row, outside_one, outside_row_parts, outside_one_grown, outside_fit_grown}
-use Rattle.pooled_cuttings.specs.Products.{IsInsideFit, IsOutsideFit, IsBesideFit, AreOutsideFit}
+use Rattle.pooled_cuttings.proofs.Loops.{over_row, over_one, over_row_parts, over_one_grown, over_fit_grown}
+use Rattle.pooled_cuttings.specs.Products.{IsOverFit}
 use Rattle.std.specs.List.{AllByRecursion}
 use Rattle.std.proofs.Common.{sum, ◌≤◌}
 use Rattle.pooled_cuttings.proofs.outside.push_outside_row.Goals as goal
-
-pub push_outside-requires-clause-step : goal.push_outside-requires-clause-step
-push_outside-requires-clause-step c =
-    record { known = rw c.loop-y.invariant.grown.pool.types c.requires.step.known; small = c.requires.step.small }
 
 pub push_outside-requires-clause-x : goal.push_outside-requires-clause-x
 push_outside-requires-clause-x c =
@@ -38,20 +34,21 @@ push_outside-requires-clause-fits c =
     let h = c.loop-y.grove in
     let a = c.loop-y.invariant.grown in
     let line = all_at (IsOpenLine g) c.args.ys.now c.loop-y.y-index c.y-item.result c.loop-y-test.true c.y-item.is c.requires.ys in
-    let fit = all_at (λ y. IsOutsideFit g.pool.types c.args.step.now c.args.s.now.entries (extracted_in g c.args.x.now.0) (opened_in g y.0)) c.args.ys.now c.loop-y.y-index c.y-item.result c.loop-y-test.true c.y-item.is c.requires.fits in
-    outside_fit_grown g h c.laws.ensures a c.args.step.now c.args.s.now.entries c.args.x.now c.y-item.result c.requires.x line fit
+    let fit = all_at (λ y. IsOverFit g.pool.types c.args.kind.0 c.args.p.now.entries (extracted_in g c.args.x.now.0) (opened_in g y.0)) c.args.ys.now c.loop-y.y-index c.y-item.result c.loop-y-test.true c.y-item.is c.requires.fits in
+    over_fit_grown g h c.laws.ensures a c.args.kind.0 c.args.p.now.entries c.args.x.now c.y-item.result c.requires.x line fit
 
 pub loop-y-preserved : goal.loop-y-preserved
 loop-y-preserved c =
     let g = c.args.grove.now in
     let h = c.loop-y.grove in
     let line = all_at (IsOpenLine g) c.args.ys.now c.loop-y.y-index c.y-item.result c.loop-y-test.true c.y-item.is c.requires.ys in
-    let put = c.in_ok-push_outside.ensures.terms ∙ ap (λ ts. opened_terms_in h c.loop-y.lines.items ++ ts) (outside_one_grown g h c.laws.ensures c.loop-y.invariant.grown c.args.step.now c.args.s.now.entries c.args.x.now c.y-item.result c.requires.x line) in
+    let put = c.in_ok-push_outside.ensures.terms ∙ ap (λ ts. opened_terms_in h c.loop-y.lines.items ++ ts) (over_one_grown g h c.laws.ensures c.loop-y.invariant.grown c.args.kind.0 c.args.p.now.entries c.args.x.now c.y-item.result c.requires.x line) in
     record {
       grown = grove_trans g h c.push_outside.new.grove c.loop-y.invariant.grown c.in_ok-push_outside.ensures.grown;
+      made = c.in_ok-push_outside.ensures.made;
       lines = c.in_ok-push_outside.ensures.lines;
       terms =
-          row_step (outside_row g c.args.step.now c.args.s.now.entries c.args.x.now) (outside_one g c.args.step.now c.args.s.now.entries c.args.x.now) (outside_row_parts g c.args.step.now c.args.s.now.entries c.args.x.now) c.args.ys.now c.loop-y.y-index c.y-item.result
+          row_step (over_row g c.args.kind.0 c.args.p.now.entries c.args.x.now) (over_one g c.args.kind.0 c.args.p.now.entries c.args.x.now) (over_row_parts g c.args.kind.0 c.args.p.now.entries c.args.x.now) c.args.ys.now c.loop-y.y-index c.y-item.result
           (opened_terms_in h c.loop-y.lines.items) (opened_terms_in c.push_outside.new.grove c.push_outside.new.lines.items) _ c.loop-y-test.true c.y-item.is put c.loop-y.invariant.terms;
     }
 
@@ -62,4 +59,4 @@ returns-in_err-push_outside-clause-grown c =
 pub returns-clause-terms : goal.returns-clause-terms
 returns-clause-terms c =
     let g = c.args.grove.now in
-    row_end (outside_row g c.args.step.now c.args.s.now.entries c.args.x.now) c.args.ys.now c.loop-y.y-index (opened_terms_in c.loop-y.grove c.loop-y.lines.items) _ refl c.loop-y-test.false c.loop-y.invariant.terms
+    row_end (over_row g c.args.kind.0 c.args.p.now.entries c.args.x.now) c.args.ys.now c.loop-y.y-index (opened_terms_in c.loop-y.grove c.loop-y.lines.items) _ refl c.loop-y-test.false c.loop-y.invariant.terms

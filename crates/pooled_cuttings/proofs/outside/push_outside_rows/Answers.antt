@@ -3,15 +3,11 @@ use Rattle.pooled_cuttings.specs.Lines.{opened_terms_in, IsOpenLine, IsExtractLi
 use Rattle.pooled_cuttings.proofs.Groves.{grove_refl, grove_trans}
 use Rattle.pooled_cuttings.proofs.Means.{open_line_grown, extract_line_grown, open_lines_grown, extract_lines_grown}
 use Rattle.pooled_cuttings.proofs.Rows.{row_step, row_end, all_at}
-use Rattle.pooled_cuttings.proofs.Loops.{outside_row, outside_rows, outside_rows_parts, outside_row_grown, outside_fits_grown}
-use Rattle.pooled_cuttings.specs.Products.{IsInsideFit, IsOutsideFit, IsBesideFit, AreOutsideFit}
+use Rattle.pooled_cuttings.proofs.Loops.{over_row, over_rows, over_rows_parts, over_row_grown, over_fits_grown}
+use Rattle.pooled_cuttings.specs.Products.{IsOverFit}
 use Rattle.std.specs.List.{AllByRecursion}
 use Rattle.std.proofs.Common.{sum, ◌≤◌}
 use Rattle.pooled_cuttings.proofs.outside.push_outside_rows.Goals as goal
-
-pub push_outside_row-requires-clause-step : goal.push_outside_row-requires-clause-step
-push_outside_row-requires-clause-step c =
-    record { known = rw c.loop-x.invariant.grown.pool.types c.requires.step.known; small = c.requires.step.small }
 
 pub push_outside_row-requires-clause-x : goal.push_outside_row-requires-clause-x
 push_outside_row-requires-clause-x c =
@@ -38,20 +34,21 @@ push_outside_row-requires-clause-fits c =
     let h = c.loop-x.grove in
     let a = c.loop-x.invariant.grown in
     let line = all_at (IsExtractLine g) c.args.xs.now c.loop-x.x-index c.x-item.result c.loop-x-test.true c.x-item.is c.requires.xs in
-    let fit = all_at (λ x. AllByRecursion (λ y. IsOutsideFit g.pool.types c.args.step.now c.args.s.now.entries (extracted_in g x.0) (opened_in g y.0)) c.args.ys.now) c.args.xs.now c.loop-x.x-index c.x-item.result c.loop-x-test.true c.x-item.is c.requires.fits in
-    outside_fits_grown g h c.laws.ensures a c.args.step.now c.args.s.now.entries c.x-item.result c.args.ys.now line c.requires.ys fit
+    let fit = all_at (λ x. AllByRecursion (λ y. IsOverFit g.pool.types c.args.kind.0 c.args.p.now.entries (extracted_in g x.0) (opened_in g y.0)) c.args.ys.now) c.args.xs.now c.loop-x.x-index c.x-item.result c.loop-x-test.true c.x-item.is c.requires.fits in
+    over_fits_grown g h c.laws.ensures a c.args.kind.0 c.args.p.now.entries c.x-item.result c.args.ys.now line c.requires.ys fit
 
 pub loop-x-preserved : goal.loop-x-preserved
 loop-x-preserved c =
     let g = c.args.grove.now in
     let h = c.loop-x.grove in
     let line = all_at (IsExtractLine g) c.args.xs.now c.loop-x.x-index c.x-item.result c.loop-x-test.true c.x-item.is c.requires.xs in
-    let put = c.in_ok-push_outside_row.ensures.terms ∙ ap (λ ts. opened_terms_in h c.loop-x.lines.items ++ ts) (outside_row_grown g h c.laws.ensures c.loop-x.invariant.grown c.args.step.now c.args.s.now.entries c.x-item.result c.args.ys.now line c.requires.ys) in
+    let put = c.in_ok-push_outside_row.ensures.terms ∙ ap (λ ts. opened_terms_in h c.loop-x.lines.items ++ ts) (over_row_grown g h c.laws.ensures c.loop-x.invariant.grown c.args.kind.0 c.args.p.now.entries c.x-item.result c.args.ys.now line c.requires.ys) in
     record {
       grown = grove_trans g h c.push_outside_row.new.grove c.loop-x.invariant.grown c.in_ok-push_outside_row.ensures.grown;
+      made = c.in_ok-push_outside_row.ensures.made;
       lines = c.in_ok-push_outside_row.ensures.lines;
       terms =
-          row_step (outside_rows g c.args.step.now c.args.s.now.entries c.args.ys.now) (λ x. outside_row g c.args.step.now c.args.s.now.entries x c.args.ys.now) (outside_rows_parts g c.args.step.now c.args.s.now.entries c.args.ys.now) c.args.xs.now c.loop-x.x-index c.x-item.result
+          row_step (over_rows g c.args.kind.0 c.args.p.now.entries c.args.ys.now) (λ x. over_row g c.args.kind.0 c.args.p.now.entries x c.args.ys.now) (over_rows_parts g c.args.kind.0 c.args.p.now.entries c.args.ys.now) c.args.xs.now c.loop-x.x-index c.x-item.result
           (opened_terms_in h c.loop-x.lines.items) (opened_terms_in c.push_outside_row.new.grove c.push_outside_row.new.lines.items) _ c.loop-x-test.true c.x-item.is put c.loop-x.invariant.terms;
     }
 
@@ -62,4 +59,4 @@ returns-in_err-push_outside_row-clause-grown c =
 pub returns-clause-terms : goal.returns-clause-terms
 returns-clause-terms c =
     let g = c.args.grove.now in
-    row_end (outside_rows g c.args.step.now c.args.s.now.entries c.args.ys.now) c.args.xs.now c.loop-x.x-index (opened_terms_in c.loop-x.grove c.loop-x.lines.items) _ refl c.loop-x-test.false c.loop-x.invariant.terms
+    row_end (over_rows g c.args.kind.0 c.args.p.now.entries c.args.ys.now) c.args.xs.now c.loop-x.x-index (opened_terms_in c.loop-x.grove c.loop-x.lines.items) _ refl c.loop-x-test.false c.loop-x.invariant.terms

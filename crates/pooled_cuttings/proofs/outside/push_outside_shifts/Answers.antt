@@ -9,34 +9,34 @@ use Rattle.std.specs.List.{AllByRecursion}
 use Rattle.std.proofs.Common.{sum, ◌≤◌}
 use Rattle.pooled_cuttings.proofs.outside.push_outside_shifts.Goals as goal
 
-pub push_outside_rows-requires-clause-step : goal.push_outside_rows-requires-clause-step
-push_outside_rows-requires-clause-step c =
+pub push_outside_shift-requires-clause-step : goal.push_outside_shift-requires-clause-step
+push_outside_shift-requires-clause-step c =
     record { known = rw c.loop-s.invariant.grown.pool.types c.requires.step.known; small = c.requires.step.small }
 
-pub push_outside_rows-requires-clause-shift : goal.push_outside_rows-requires-clause-shift
-push_outside_rows-requires-clause-shift c =
+pub push_outside_shift-requires-clause-shift : goal.push_outside_shift-requires-clause-shift
+push_outside_shift-requires-clause-shift c =
     all_at (λ s. sum s.entries ≤ 8192) c.args.shifts.now c.loop-s.s-index (shift_at c.args.shifts.now c.loop-s.s-index) c.loop-s-test.true (shift_is c.args.shifts.now c.loop-s.s-index c.loop-s-test.true) c.requires.shifts
 
-pub push_outside_rows-requires-clause-xs : goal.push_outside_rows-requires-clause-xs
-push_outside_rows-requires-clause-xs c =
+pub push_outside_shift-requires-clause-xs : goal.push_outside_shift-requires-clause-xs
+push_outside_shift-requires-clause-xs c =
     let g = c.args.grove.now in
     let h = c.loop-s.grove in
     let a = c.loop-s.invariant.grown in
     extract_lines_grown g h c.args.xs.now a c.requires.xs
 
-pub push_outside_rows-requires-clause-ys : goal.push_outside_rows-requires-clause-ys
-push_outside_rows-requires-clause-ys c =
+pub push_outside_shift-requires-clause-ys : goal.push_outside_shift-requires-clause-ys
+push_outside_shift-requires-clause-ys c =
     let g = c.args.grove.now in
     let h = c.loop-s.grove in
     let a = c.loop-s.invariant.grown in
     open_lines_grown g h c.args.ys.now a c.requires.ys
 
-pub push_outside_rows-requires-clause-lines : goal.push_outside_rows-requires-clause-lines
-push_outside_rows-requires-clause-lines c =
+pub push_outside_shift-requires-clause-lines : goal.push_outside_shift-requires-clause-lines
+push_outside_shift-requires-clause-lines c =
     c.loop-s.invariant.lines
 
-pub push_outside_rows-requires-clause-fits : goal.push_outside_rows-requires-clause-fits
-push_outside_rows-requires-clause-fits c =
+pub push_outside_shift-requires-clause-fits : goal.push_outside_shift-requires-clause-fits
+push_outside_shift-requires-clause-fits c =
     let g = c.args.grove.now in
     let h = c.loop-s.grove in
     let a = c.loop-s.invariant.grown in
@@ -48,18 +48,19 @@ loop-s-preserved c =
     let g = c.args.grove.now in
     let h = c.loop-s.grove in
     let line = all_at (λ s. sum s.entries ≤ 8192) c.args.shifts.now c.loop-s.s-index (shift_at c.args.shifts.now c.loop-s.s-index) c.loop-s-test.true (shift_is c.args.shifts.now c.loop-s.s-index c.loop-s-test.true) c.requires.shifts in
-    let put = c.in_ok-push_outside_rows.ensures.terms ∙ ap (λ ts. opened_terms_in h c.loop-s.lines.items ++ ts) (outside_rows_grown g h c.laws.ensures c.loop-s.invariant.grown c.args.step.now (shift_at c.args.shifts.now c.loop-s.s-index).entries c.args.xs.now c.args.ys.now c.requires.xs c.requires.ys) in
+    let put = c.in_ok-push_outside_shift.ensures.terms ∙ ap (λ ts. opened_terms_in h c.loop-s.lines.items ++ ts) (outside_rows_grown g h c.laws.ensures c.loop-s.invariant.grown c.args.step.now (shift_at c.args.shifts.now c.loop-s.s-index).entries c.args.xs.now c.args.ys.now c.requires.xs c.requires.ys) in
     record {
-      grown = grove_trans g h c.push_outside_rows.new.grove c.loop-s.invariant.grown c.in_ok-push_outside_rows.ensures.grown;
-      lines = c.in_ok-push_outside_rows.ensures.lines;
+      grown = grove_trans g h c.push_outside_shift.new.grove c.loop-s.invariant.grown c.in_ok-push_outside_shift.ensures.grown;
+      made = c.in_ok-push_outside_shift.ensures.made;
+      lines = c.in_ok-push_outside_shift.ensures.lines;
       terms =
           row_step (outside_shifts g c.args.step.now c.args.xs.now c.args.ys.now) (λ s. outside_rows g c.args.step.now s.entries c.args.ys.now c.args.xs.now) (outside_shifts_parts g c.args.step.now c.args.xs.now c.args.ys.now) c.args.shifts.now c.loop-s.s-index (shift_at c.args.shifts.now c.loop-s.s-index)
-          (opened_terms_in h c.loop-s.lines.items) (opened_terms_in c.push_outside_rows.new.grove c.push_outside_rows.new.lines.items) _ c.loop-s-test.true (shift_is c.args.shifts.now c.loop-s.s-index c.loop-s-test.true) put c.loop-s.invariant.terms;
+          (opened_terms_in h c.loop-s.lines.items) (opened_terms_in c.push_outside_shift.new.grove c.push_outside_shift.new.lines.items) _ c.loop-s-test.true (shift_is c.args.shifts.now c.loop-s.s-index c.loop-s-test.true) put c.loop-s.invariant.terms;
     }
 
-pub returns-in_err-push_outside_rows-clause-grown : goal.returns-in_err-push_outside_rows-clause-grown
-returns-in_err-push_outside_rows-clause-grown c =
-    grove_trans c.args.grove.now c.loop-s.grove c.push_outside_rows.new.grove c.loop-s.invariant.grown c.in_err-push_outside_rows.ensures.grown
+pub returns-in_err-push_outside_shift-clause-grown : goal.returns-in_err-push_outside_shift-clause-grown
+returns-in_err-push_outside_shift-clause-grown c =
+    grove_trans c.args.grove.now c.loop-s.grove c.push_outside_shift.new.grove c.loop-s.invariant.grown c.in_err-push_outside_shift.ensures.grown
 
 pub returns-clause-terms : goal.returns-clause-terms
 returns-clause-terms c =

@@ -1,4 +1,4 @@
-use Rattle.std.proofs.Common.{refl, ◌∙◌}
+use Rattle.std.proofs.Common.{refl}
 use Rattle.std.proofs.lemmas.List.{get_or_default}
 use Rattle.std.proofs.lemmas.Result.{err_from_is_err_and}
 use Rattle.tree_pool.specs.Content.{trees_of}
@@ -6,8 +6,8 @@ use Rattle.pooled_cuttings.proofs.Groves.{grove_trans}
 use Rattle.extraction_coproduct.specs.Finished.{grove_of}
 use Rattle.counterterm_report.specs.Values.{IsTreeValues}
 use Rattle.twisted_antipode.specs.Held.{held_over}
-use Rattle.twisted_antipode.proofs.CountLaws.{count_same, count_after, over_same, over_after}
-use Rattle.twisted_antipode.proofs.HeldLaws.{extended_itself, extended_twice, over_grown}
+use Rattle.twisted_antipode.proofs.CountLaws.{count_after, over_after}
+use Rattle.twisted_antipode.proofs.HeldLaws.{extended_twice, over_grown}
 use Rattle.tree_values.proofs.Lists.{all_put}
 use Rattle.tree_values.proofs.SeveralTrees.{next_values, first_refused, names_known, one_finished, all_done}
 use Rattle.tree_values.proofs.list.all_values.Goals as goal

@@ -307,11 +307,11 @@ with_run-returns-clause-value t c =
     let quotients = run_value r pool.types (quotients_in pool es) in
     let value = subst (λ (d : Content). IsValueOf (run_value r d.types (quotients_in d es)) c.in_ok-quotients.quotients) c.pool.ensures c.in_ok-quotients.ensures.value in
     if_ok c.with_product.result
-    (λ (v : Value). (w q f : Weighed) → IsValueOf w c.args.total → IsValueOf q c.in_ok-quotients.quotients → IsValueOf f c.in_ok-forest.forest → IsValueOf (sum_of w (negative_of (product_of f q))) v)
+    (λ (v : Value). (w q f : Weighed) → w.mass ≤ overflow → IsValueOf w c.args.total → IsValueOf q c.in_ok-quotients.quotients → IsValueOf f c.in_ok-forest.forest → IsValueOf (sum_of w (negative_of (product_of f q))) v)
     (λ (v : Value). (a : Plain → Weighed) (w : Weighed) → IsGood r pool c.args.memo.now a → w.mass ≤ overflow → IsValueOf w c.args.total →
     IsValueOf (sum_of w (part_value r pool.types a (other_pairs (tree_at pool i) (pairs_in (grove_of b) es)))) v)
     (λ v step a w good most h.
-    added_value (grove_of b) i ids es over r a w v not (step w quotients (forest_weighed a (trees_of pool ids)) h value (c.in_ok-forest.ensures.value a good)))
+    added_value (grove_of b) i ids es over r a w v not (step w quotients (forest_weighed a (trees_of pool ids)) most h value (c.in_ok-forest.ensures.value a good)))
     c.with_product.ensures.value
 
 pub forest_value-returns-in_err-value-clause-counted : goal.forest_value-returns-in_err-value-clause-counted

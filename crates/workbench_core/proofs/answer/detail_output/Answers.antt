@@ -1,4 +1,4 @@
-use Rattle.std.proofs.Common.{◌≡◌, ◌⊎◌, ℕ, List, IfOk, IfErr, subst}
+use Rattle.std.proofs.Common.{◌≡◌, ◌⊎◌, IfOk, IfErr, subst}
 use Rattle.workbench_core.specs.Detail.{IsDetailOf}
 use Rattle.workbench_core.specs.Answers.{of_output, of_refusal, of_result, IsPrinted}
 use Rattle.workbench_core.specs.declared.refusal.Refusal.TheVariants.{Memory}

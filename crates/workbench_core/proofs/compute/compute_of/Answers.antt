@@ -8,4 +8,4 @@ returns-in_err-reported-clause-refused c =
     rw (p.1, p.2) (refused_file c.args.file.now _ c.in_err-reported.ensures.refused)
 
 pub returns-clause-report : goal.returns-clause-report
-returns-clause-report c = report_printed c.args.file.now _ c.print_computed.result c.print_computed.ensures.text c.print_computed.ensures.reused c.print_computed.ensures.computed c.in_ok-reported.ensures.values
+returns-clause-report c = report_printed c.args.file.now _ c.print_computed.result c.print_computed.ensures.report c.in_ok-reported.ensures.values

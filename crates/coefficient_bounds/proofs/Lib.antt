@@ -1,0 +1,5 @@
+pub mod Binomials
+pub mod PoolSteps
+pub mod Shifts
+pub mod Totals
+pub mod Weights

@@ -1,0 +1,4 @@
+mod Answering
+mod Pieces
+mod Rows
+pub mod Statuses

@@ -1,0 +1,2 @@
+pub mod PooledTexts
+pub mod PooledTrees

@@ -1,0 +1,6 @@
+use Rattle.sample_files.specs.Sample.{unknown_text}
+use Rattle.sample_files.proofs.Joined.{joined_next}
+use Rattle.sample_files.proofs.put_unknowns.Goals as goal
+
+pub loop-before-preserved : goal.loop-before-preserved
+loop-before-preserved c = joined_next (unknown_text c.args.number) c.loop-before.before _ _ _ c.loop-before.invariant c.in_ok-put_unknown.ensures

@@ -1,0 +1,2 @@
+pub mod SoundAnswers
+pub mod SoundKept

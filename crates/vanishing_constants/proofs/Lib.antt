@@ -1,0 +1,2 @@
+pub mod VanishingConstants
+pub mod HeldZeros

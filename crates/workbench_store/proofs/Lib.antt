@@ -1,0 +1,7 @@
+mod AuditLemmas
+mod ComputingLemmas
+mod MigrateLemmas
+mod ProjectLemmas
+mod ReportLemmas
+mod RunLemmas
+pub mod SteppedLemmas

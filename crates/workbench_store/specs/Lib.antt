@@ -1,0 +1,10 @@
+pub mod Audit
+pub mod Computing
+pub mod Contexts
+pub mod NewReports
+pub mod Pages
+pub mod Projects
+pub mod Requests
+pub mod Sound
+pub mod Stepped
+pub mod Steps
