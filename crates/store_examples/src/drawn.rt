@@ -1,28 +1,34 @@
 // Commands that are drawn by a fixed rule, over a keeper in memory and over a database.
-use crate::files::{EMPTY, PAM, PAM_QUADRATIC, PHI4_2D};
+use crate::commands::Command;
 use crate::keepers::database;
-use crate::runs::run_line;
+use crate::model::{Model, page_line};
+use crate::runs::{Run, run_line};
 use result_keeper::{Keeper, KeeperError, QuietKeeper};
-use std::alloc::{AllocError, Global};
+use std::alloc::Global;
 use std::test::Fail;
+use wb_outside::OutsideError;
 
-const NAMES: [&str; 4] = ["pam", "pam_quadratic", "phi4", "empty"];
+fn run_command<K: Keeper>(
+    alloc: Global,
+    keeper: &mut K,
+    command: Command,
+) -> Result<Run, OutsideError> {
+    let line = command.line(alloc)?;
+    run_line(alloc, keeper, &line, command.file())
+}
 
-const FILES: [&str; 5] = [PAM, PAM_QUADRATIC, PHI4_2D, EMPTY, "scalin"];
-
-// The command line of a draw.
-fn line_of(alloc: Global, draw: u32) -> Result<String, AllocError> {
-    let name = NAMES[(draw / 16 % 4) as usize];
-    match draw % 12 {
-        0..=3 => format!(in alloc; "add {name} file"),
-        4 => format!(in alloc; "show {name}"),
-        5 => format!(in alloc; "remove {name}"),
-        6 => format!(in alloc; "names"),
-        7 => format!(in alloc; "compute {name} --fresh"),
-        8 => format!(in alloc; "trees {name}"),
-        9 => format!(in alloc; "audit"),
-        _ => format!(in alloc; "compute {name}"),
+// The names of a keeper, and each of its contexts, with the number of its rows.
+fn outline_of<K: Keeper>(alloc: Global, keeper: &mut K) -> Result<Vec<u8>, KeeperError> {
+    let mut lines = Vec::new(alloc);
+    for name in keeper.names(alloc)? {
+        lines.extend_from_slice(name.bytes())?;
+        lines.push(b'\n')?;
     }
+    for context in keeper.contexts(alloc)? {
+        let rows = keeper.results(alloc, &context)?.len();
+        lines.extend_from_slice(&page_line(alloc, &context, rows)?)?;
+    }
+    Ok(lines)
 }
 
 // Whether two keepers have the same tables.
@@ -50,18 +56,22 @@ fn are_alike<K: Keeper, L: Keeper>(
 }
 
 #[test]
-fn commands_over_memory_and_over_a_database_answer_alike(rt: HostRuntime) -> Result<(), Fail> {
+fn commands_leave_what_a_plain_model_says(rt: HostRuntime) -> Result<(), Fail> {
     let alloc = rt.alloc();
+    let mut model = Model::new(alloc)?;
     let mut memory = QuietKeeper::new(alloc);
     let mut database = database(alloc)?;
     for number in 0..300u32 {
-        let draw = number.wrapping_mul(2_654_435_761) >> 8;
-        let line = line_of(alloc, draw)?;
-        let file = FILES[(draw / 64 % 5) as usize];
-        let one = run_line(alloc, &mut memory, &line, file)?;
-        let other = run_line(alloc, &mut database, &line, file)?;
-        assert_eq!(rt; one, other, "{line}");
+        let command = Command::drawn(number);
+        let wanted = model.step(alloc, command)?;
+        let in_memory = run_command(alloc, &mut memory, command)?;
+        assert_eq!(rt; in_memory, wanted, "{number} {command:?}");
+        let in_database = run_command(alloc, &mut database, command)?;
+        assert_eq!(rt; in_database, wanted, "{number} {command:?}");
     }
+    let outline = model.outline(alloc)?;
+    assert_eq!(rt; outline_of(alloc, &mut memory)?, outline);
+    assert_eq!(rt; outline_of(alloc, &mut database)?, outline);
     assert!(rt; are_alike(alloc, &mut memory, &mut database)?);
     Ok(())
 }

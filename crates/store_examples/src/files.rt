@@ -23,6 +23,8 @@ pub const PAM_QUADRATIC: &str =
 pub const PHI4_2D: &str =
     "version = 1\nscaling = [2, 1, 1]\n[[noise]]\nname = \"xi\"\ndegree = \"-2-k\"\n[[unknown]]\nname = \"u\"\ndegree = \"2\"\nregularity = \"-1/2\"\nright = \"-u^3+xi\"\n";
 
+pub const PHI4_2D_CONTEXT: &str = "context 2|scaling 2,1,1|reflect -|noise xi -2-k xi|kernel u 2 -";
+
 /// Nothing on the right side.
 pub const EMPTY: &str =
     "version = 1\nscaling = [2, 1, 1]\n[[noise]]\nname = \"xi\"\ndegree = \"-2-k\"\n[[unknown]]\nname = \"u\"\ndegree = \"2\"\nregularity = \"-1/2\"\nright = \"\"\n";
@@ -35,3 +37,6 @@ pub const KPZ_SYMMETRIC: &str =
     "version = 2\nscaling = [2, 1]\nreflect = [2]\n[[noise]]\nname = \"xi\"\ndegree = \"-3/2-k\"\n[[unknown]]\nname = \"u\"\ndegree = \"2\"\nregularity = \"1/4\"\nright = \"u'(0,1)^2+xi\"\n";
 
 pub const KPZ_CONTEXT: &str = "context 2|scaling 2,1|reflect -|noise xi -3/2-k xi|kernel u 2 -";
+
+/// A text that the TOML reader refuses.
+pub const NO_TOML: &str = "scalin";

@@ -35,14 +35,17 @@ pub fn filled_database(alloc: Global, count: u32) -> Result<SqliteKeeper<MemStor
     SqliteKeeper::new(alloc, connection)
 }
 
-// The store without its version, which is one of version 1 where there are rows.
-pub fn unversioned(
+// The store after statements on its database, opened anew.
+pub fn reopened(
     alloc: Global,
     keeper: SqliteKeeper<MemStore>,
+    statements: &[&str],
 ) -> Result<SqliteKeeper<MemStore>, KeeperError> {
     let mut connection = keeper.into_connection();
-    if connection.execute("DELETE FROM store", &[]).is_err() {
-        return Err(KeeperError::Failed);
+    for statement in statements {
+        if connection.execute(statement, &[]).is_err() {
+            return Err(KeeperError::Failed);
+        }
     }
     SqliteKeeper::new(alloc, connection)
 }

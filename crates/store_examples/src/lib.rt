@@ -3,11 +3,17 @@
 #![tactic(auto)]
 
 #[cfg(test)]
+mod commands;
+#[cfg(test)]
 mod drawn;
+#[cfg(test)]
+mod faults;
 #[cfg(test)]
 mod files;
 #[cfg(test)]
 mod keepers;
+#[cfg(test)]
+mod model;
 #[cfg(test)]
 mod projects;
 #[cfg(test)]

@@ -1,5 +1,5 @@
 // Projects: what is added, shown and removed, and when the store is full.
-use crate::files::{EMPTY, KPZ, PAM, PAM_QUADRATIC, PAM_REPORT};
+use crate::files::{EMPTY, KPZ, NO_TOML, PAM, PAM_QUADRATIC, PAM_REPORT};
 use crate::keepers::{database, empty_keeper, filled_database};
 use crate::runs::{Case, first_other, run_line};
 use result_keeper::Keeper;
@@ -11,7 +11,7 @@ const PROJECTS: [Case; 12] = [
     ("add pam file", PAM, 0, Some("replaced pam\n"), ""),
     ("names", "", 0, Some("pam\n"), ""),
     ("show pam", "", 0, Some(PAM), ""),
-    ("add kpz file", "scalin", 4, Some(""), "refused 4 NotToml\n"),
+    ("add kpz file", NO_TOML, 4, Some(""), "refused 4 NotToml\n"),
     ("add kpz other", KPZ, 3, Some(""), "refused 3 FileFault\n"),
     ("add kpz file", KPZ, 0, Some("added kpz\n"), ""),
     ("names", "", 0, Some("kpz\npam\n"), ""),

@@ -1,6 +1,6 @@
 // Stores of version 1, and what a migration makes of them.
 use crate::files::{PAM, PAM_OLD_CONTEXT, PAM_REPORT};
-use crate::keepers::{database, old_keeper, put_pam, put_rows, unversioned};
+use crate::keepers::{database, old_keeper, put_pam, put_rows, reopened};
 use crate::runs::{Case, first_other};
 use result_keeper::{Keeper, KeeperError};
 use std::alloc::Global;
@@ -28,6 +28,9 @@ const MIGRATED: [Case; 6] = [
     ("migrate", "", 0, Some("migrated 0\n"), ""),
 ];
 
+// A store that has rows and no version is one of version 1.
+const WITHOUT_VERSION: &str = "DELETE FROM store";
+
 // The project `pam` with its rows under the old context.
 fn put_old<K: Keeper>(alloc: Global, keeper: &mut K) -> Result<(), KeeperError> {
     put_pam(alloc, keeper, PAM)?;
@@ -42,7 +45,7 @@ fn a_migration_keeps_projects_and_rows(rt: HostRuntime) -> Result<(), Fail> {
     assert_eq!(rt; first_other(alloc, &mut memory, &MIGRATED)?, None);
     let mut kept = database(alloc)?;
     put_old(alloc, &mut kept)?;
-    let mut old = unversioned(alloc, kept)?;
+    let mut old = reopened(alloc, kept, &[WITHOUT_VERSION])?;
     assert_eq!(rt; first_other(alloc, &mut old, &MIGRATED)?, None);
     Ok(())
 }
