@@ -53,7 +53,8 @@ fn has_cause(object: Object, run: &Run, good: &Run) -> bool {
         Object::Keeper => run.leaves(11, "", "refused 11 StoreFault\n") || is_answered(run),
         Object::Out => run.leaves(15, "", "refused 15 WriteFault\n"),
         Object::ErrorStream => run.code == 15 && run.out == good.out && run.err.is_empty(),
-        Object::Door => run.leaves(16, "", "refused 16 DoorFault\n") || run.leaves(0, "dropped\n", ""),
+        Object::Door => run.leaves(16, "", "refused 16 DoorFault\n")
+            || run.leaves(0, "dropped\n", ""),
     }
 }
 

@@ -114,9 +114,21 @@ fn a_fault_has_its_status_and_loses_nothing(rt: HostRuntime) -> Result<(), Fail>
     for fault in FAULTS {
         let (failed, next) = runs_of(rt.alloc(), fault)?;
         assert_eq!(rt; failed.code, fault.code, "{} {}", fault.line, fault.keeper);
-        assert!(rt; failed.out.as_slice() == fault.out.as_bytes(), "{}", fault.line);
-        assert!(rt; next.out.as_slice() == PAM_REPORT.as_bytes(), "{}", fault.line);
-        assert!(rt; next.err.as_slice() == fault.next.as_bytes(), "{}", fault.line);
+        assert!(rt;
+            failed.out.as_slice() == fault.out.as_bytes(),
+            "{}",
+            fault.line
+        );
+        assert!(rt;
+            next.out.as_slice() == PAM_REPORT.as_bytes(),
+            "{}",
+            fault.line
+        );
+        assert!(rt;
+            next.err.as_slice() == fault.next.as_bytes(),
+            "{}",
+            fault.line
+        );
     }
     Ok(())
 }

@@ -121,10 +121,12 @@ fn is_told(alloc: Global, row: &Row, after: &Content) -> Result<bool, Fail> {
     let failed = run(alloc, &mut keeper, row.line, row.given, row.failing)?;
     let next = run(alloc, &mut keeper, "compute pam", "", NONE)?;
     let content = content_of(alloc, &mut keeper)?;
-    Ok(failed.leaves(row.code, row.out, row.err)
-        && failed.response.as_slice() == row.response.as_bytes()
-        && next.leaves(0, REPORT, row.next)
-        && content == *after)
+    Ok(
+        failed.leaves(row.code, row.out, row.err)
+            && failed.response.as_slice() == row.response.as_bytes()
+            && next.leaves(0, REPORT, row.next)
+            && content == *after,
+    )
 }
 
 #[test]
