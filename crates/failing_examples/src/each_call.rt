@@ -20,6 +20,7 @@ const MOST_CALLS: u64 = 20;
 
 // Two runs of a command one after the other, in which no call fails, and what the store holds
 // before and after the first one.
+#[derive(Drop)]
 struct Good {
     old: Content,
     new: Content,
