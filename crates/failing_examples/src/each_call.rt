@@ -1,7 +1,7 @@
 // Each call that a run makes of the outside fails once, one at a time.
 use crate::commands::{COMMANDS, Command};
 use crate::kept::{Content, content_of};
-use crate::runs::{Failing, NONE, Object, Run, run};
+use crate::runs::{Failing, NONE, Object, Run, run_line};
 use result_keeper::MemoryKeeper;
 use std::alloc::Global;
 use std::test::Fail;
@@ -31,9 +31,9 @@ struct Good {
 fn run_well(alloc: Global, command: &Command) -> Result<Good, Fail> {
     let mut keeper = command.store.keeper(alloc, 0)?;
     let old = content_of(alloc, &mut keeper)?;
-    let first = run(alloc, &mut keeper, command.line, command.given, NONE)?;
+    let first = run_line(alloc, &mut keeper, command.line, command.given, NONE)?;
     let new = content_of(alloc, &mut keeper)?;
-    let second = run(alloc, &mut keeper, command.line, command.given, NONE)?;
+    let second = run_line(alloc, &mut keeper, command.line, command.given, NONE)?;
     Ok(Good {
         old,
         new,
@@ -68,7 +68,7 @@ fn is_whole(
     good: &Good,
 ) -> Result<bool, Fail> {
     let content = content_of(alloc, keeper)?;
-    let next = run(alloc, keeper, command.line, command.given, NONE)?;
+    let next = run_line(alloc, keeper, command.line, command.given, NONE)?;
     Ok((content == good.old && next == good.first) || (content == good.new && next == good.second))
 }
 
@@ -83,7 +83,7 @@ fn told_calls(
     for calls in 0..MOST_CALLS {
         let failing = Failing::at(object, calls + 1);
         let mut keeper = command.store.keeper(alloc, failing.keeper)?;
-        let run = run(alloc, &mut keeper, command.line, command.given, failing)?;
+        let run = run_line(alloc, &mut keeper, command.line, command.given, failing)?;
         if run == good.first {
             return Ok(Some(calls));
         }

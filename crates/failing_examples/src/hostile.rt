@@ -1,6 +1,6 @@
 // Words that are long or deep, and rows that somebody else wrote.
 use crate::kept::content_of;
-use crate::runs::{NONE, run};
+use crate::runs::{NONE, run_line};
 use crate::stores::Store;
 use std::alloc::{AllocError, Global};
 use std::test::Fail;
@@ -68,7 +68,7 @@ fn is_refused(alloc: Global, row: &Row) -> Result<bool, Fail> {
     let line = joined(alloc, row.line)?;
     let mut keeper = row.store.keeper(alloc, 0)?;
     let before = content_of(alloc, &mut keeper)?;
-    let refused = run(alloc, &mut keeper, &line, "", NONE)?;
+    let refused = run_line(alloc, &mut keeper, &line, "", NONE)?;
     let after = content_of(alloc, &mut keeper)?;
     Ok(refused.leaves(row.code, "", row.refusal) && before == after)
 }

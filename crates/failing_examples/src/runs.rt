@@ -109,7 +109,7 @@ fn words_of(alloc: Global, line: &str) -> Result<Vec<String>, AllocError> {
 
 /// The program with a command line over a store. The given text is that of the file `file`, and what
 /// each of two peers sends. The store was made with its own failing call.
-pub fn run(
+pub fn run_line(
     alloc: Global,
     keeper: &mut MemoryKeeper,
     line: &str,

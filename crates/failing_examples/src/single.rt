@@ -1,6 +1,6 @@
 // Single calls that fail, and what stands in the store afterwards.
 use crate::kept::{Content, content_of};
-use crate::runs::{Failing, NONE, run};
+use crate::runs::{Failing, NONE, run_line};
 use crate::stores::{PAM, Store};
 use std::alloc::Global;
 use std::test::Fail;
@@ -111,15 +111,15 @@ const ROWS: &[Row] = &[
 // What the store holds after the report was computed.
 fn computed(alloc: Global) -> Result<Content, Fail> {
     let mut keeper = Store::Bare.keeper(alloc, 0)?;
-    run(alloc, &mut keeper, "compute pam", "", NONE)?;
+    run_line(alloc, &mut keeper, "compute pam", "", NONE)?;
     Ok(content_of(alloc, &mut keeper)?)
 }
 
 // Whether a run leaves what its row says, and `compute pam` then leaves what it always leaves.
 fn is_told(alloc: Global, row: &Row, after: &Content) -> Result<bool, Fail> {
     let mut keeper = Store::Bare.keeper(alloc, row.failing.keeper)?;
-    let failed = run(alloc, &mut keeper, row.line, row.given, row.failing)?;
-    let next = run(alloc, &mut keeper, "compute pam", "", NONE)?;
+    let failed = run_line(alloc, &mut keeper, row.line, row.given, row.failing)?;
+    let next = run_line(alloc, &mut keeper, "compute pam", "", NONE)?;
     let content = content_of(alloc, &mut keeper)?;
     Ok(
         failed.leaves(row.code, row.out, row.err)
