@@ -6,7 +6,7 @@ use crate::asked::{empty_keeper, put_pam};
 use extraction_coproduct::Work;
 use std::alloc::{AllocError, Global};
 use std::test::Fail;
-use wb_outside::{MemoryDoor, MemoryFiles, MemorySink, OutsideError};
+use wb_outside::{MemoryDoor, MemoryFiles, MemorySink, NamedText, OutsideError};
 use workbench_cli::workbench;
 
 // A door to which two peers come, of which the first asks for a report. This call of it fails, from
@@ -20,6 +20,18 @@ fn two_peers(alloc: Global, failing: u64) -> Result<MemoryDoor, OutsideError>
     let mut calls = Vec::new(alloc);
     calls.push(failing)?;
     MemoryDoor::new(alloc, connections, 65536, 4096, calls)
+}
+
+// One text, which is named `file`.
+#[tactic(auto, using(wb_outside::proofs::TextLemmas::distinct_one))]
+fn one_text(alloc: Global, text: &str) -> Result<Vec<NamedText>, AllocError>
+    ensures { IfOk result (λ texts. AreDistinct texts.items) }
+{
+    let name = b"file".to_vec(alloc)?;
+    let bytes = text.as_bytes().to_vec(alloc)?;
+    let mut texts = Vec::new(alloc);
+    texts.push(NamedText { name, bytes })?;
+    Ok(texts)
 }
 
 // The words of a command line, which spaces part.
@@ -47,7 +59,7 @@ fn is_served(
     let _ = put_pam(alloc, &mut keeper);
     let mut door = two_peers(alloc, failing.1)?;
     let words = words_of(alloc, line)?;
-    let mut files = MemoryFiles::new(alloc, Vec::new(alloc), Vec::new(alloc));
+    let mut files = MemoryFiles::new(alloc, one_text(alloc, "")?, Vec::new(alloc));
     let mut out = MemorySink::new(alloc, room, Vec::new(alloc))?;
     let mut err = MemorySink::new(alloc, 100, Vec::new(alloc))?;
     let mut work = Work { tables: 0 };
